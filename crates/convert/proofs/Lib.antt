@@ -1,3 +1,3 @@
 mod Copies
-mod Refills
 mod Lengths
+pub mod Refills
