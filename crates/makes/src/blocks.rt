@@ -73,8 +73,8 @@ pub(crate) fn fetch<L: Layout>(
     ensures answer { λ r. ⌜ r ≡ reply k (cellAt (cellsOf (L·Layout .shape) (now (memory .entry))) k) ⌝ }
     ensures fills { λ _. ⌜ now (packet .exit) ≡ filled (cellAt (cellsOf (L·Layout .shape) (now (memory .entry))) k) (now (packet .entry)) ⌝ }
 {
-    let place = locate::<L>(memory, k)?;
-    packet.copy_from_slice(&memory[place..place + 36]);
+    let from = locate::<L>(memory, k)?;
+    packet.copy_from_slice(&memory[from..from + 36]);
     Ok(())
 }
 

@@ -1,5 +1,6 @@
 //! The three makes of carrier, over borrowed memory.
 mod blocks;
 pub mod image;
+pub mod image_mut;
 pub mod layout;
 pub mod make;
