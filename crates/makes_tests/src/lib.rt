@@ -25,7 +25,10 @@ mod tests {
         let mut packet = [7; 36];
         let image = Image::<Disk>::new(&[]);
         check_eq(image.count(), 0)?;
-        check_eq(image.get(0, &mut packet), Err(CarrierFault::NoSuchCell { cell: 0 }))?;
+        check_eq(
+            image.get(0, &mut packet),
+            Err(CarrierFault::NoSuchCell { cell: 0 }),
+        )?;
         check_eq(packet[0], 7)
     }
 
@@ -37,18 +40,30 @@ mod tests {
             let mut image = ImageMut::<Block1200>::new(&mut memory);
             image.clear();
             check_eq(image.count(), 6)?;
-            check_eq(image.get(6, &mut packet), Err(CarrierFault::NoSuchCell { cell: 6 }))?;
+            check_eq(
+                image.get(6, &mut packet),
+                Err(CarrierFault::NoSuchCell { cell: 6 }),
+            )?;
             check_eq(packet[35], 7)?;
             check_eq(image.put(5, &packet), Ok(()))?;
-            check_eq(image.put(6, &packet), Err(CarrierFault::NoSuchCell { cell: 6 }))?;
+            check_eq(
+                image.put(6, &packet),
+                Err(CarrierFault::NoSuchCell { cell: 6 }),
+            )?;
             check_eq(image.get(4, &mut packet), Ok(()))?;
             check_eq(packet[0], 0x88)?;
             check_eq(image.get(5, &mut packet), Ok(()))?;
             check_eq(packet[0], 7)?;
         }
         // cell 5 begins at byte 150 + 16 + 2 * 36; what no block has a use for is as before
-        check_eq([memory[237], memory[238], memory[273], memory[274]], [0x88, 7, 7, 0x88])?;
-        check_eq([memory[14], memory[15], memory[143], memory[144]], [1, 0, 0x88, 1])?;
+        check_eq(
+            [memory[237], memory[238], memory[273], memory[274]],
+            [0x88, 7, 7, 0x88],
+        )?;
+        check_eq(
+            [memory[14], memory[15], memory[143], memory[144]],
+            [1, 0, 0x88, 1],
+        )?;
         check_eq([memory[299], memory[300], memory[309]], [1, 1, 1])
     }
 
@@ -63,8 +78,20 @@ mod tests {
         check_eq(image.get(15, &mut packet), Ok(()))?;
         check_eq(packet[0], 0x88)?;
         packet[0] = 7;
-        check_eq(image.get(16, &mut packet), Err(CarrierFault::Damaged { cell: 16, byte: 1192 }))?;
-        check_eq(image.get(31, &mut packet), Err(CarrierFault::Damaged { cell: 31, byte: 1192 }))?;
+        check_eq(
+            image.get(16, &mut packet),
+            Err(CarrierFault::Damaged {
+                cell: 16,
+                byte: 1192,
+            }),
+        )?;
+        check_eq(
+            image.get(31, &mut packet),
+            Err(CarrierFault::Damaged {
+                cell: 31,
+                byte: 1192,
+            }),
+        )?;
         check_eq(packet[0], 7)
     }
 
@@ -78,7 +105,10 @@ mod tests {
         }
         memory[15] = 1;
         memory[124] = 0;
-        check_eq(ImageMut::<Block1200>::new(&mut memory).put(1, &[7; 36]), damaged)?;
+        check_eq(
+            ImageMut::<Block1200>::new(&mut memory).put(1, &[7; 36]),
+            damaged,
+        )?;
         check_eq([memory[51], memory[52], memory[87]], [0x88, 0x88, 0x88])
     }
 
@@ -92,7 +122,10 @@ mod tests {
             image.clear();
             check_eq(image.put(999_999, &packet), Ok(()))?;
             check_eq(image.get(999_999, &mut packet), Ok(()))?;
-            check_eq(image.put(1_000_000, &packet), Err(CarrierFault::NoSuchCell { cell: 1_000_000 }))?;
+            check_eq(
+                image.put(1_000_000, &packet),
+                Err(CarrierFault::NoSuchCell { cell: 1_000_000 }),
+            )?;
         }
         check_eq(memory.get(35_999_963).copied(), Some(0x88))?;
         check_eq(memory.get(35_999_964).copied(), Some(7))?;

@@ -1,2 +1,2 @@
-mod FieldLaws
-mod PacketLaws
+pub mod FieldLaws
+pub mod PacketLaws

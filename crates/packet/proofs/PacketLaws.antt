@@ -26,7 +26,7 @@ bytes-from w b n h = fill-by-all (byte w) b 36 0 n h
 pub word-number : (b : List ℕ) (k : ℕ) → word b (k + 1) ≡ number b (4 * k)
 word-number b k = let e : 4 * (k + 1 - 1) ≡ 4 * k = omega arith in ap (number b) e
 
-words-at : (b : List ℕ) (k : ℕ) → k < 9 → getD (wordsOf b) k 0 ≡ number b (4 * k)
+pub words-at : (b : List ℕ) (k : ℕ) → k < 9 → getD (wordsOf b) k 0 ≡ number b (4 * k)
 unfolding wordsOf
 words-at b k l = getD-map-counting (word b) 1 9 k (k + 1) 0 l (omega arith) ∙ word-number b k
 

@@ -17,3 +17,10 @@ join (w ∷ ws) (v ∷ vs) = v * 2 ^ total ws + join ws vs
 unfoldable pub split : List ℕ → ℕ → List ℕ
 split [] n = []
 split (w ∷ ws) n = n / 2 ^ total ws % 2 ^ w ∷ split ws n
+
+-- each value fits its field
+abbrev pub Fill : List ℕ → List ℕ → Type 0
+Fill [] [] = Unit {0}
+Fill [] (v ∷ vs) = ⊥
+Fill (w ∷ ws) [] = ⊥
+Fill (w ∷ ws) (v ∷ vs) = (v < 2 ^ w) × Fill ws vs

@@ -1,0 +1,3 @@
+mod OrbitKindLaws
+mod OrbitLaws
+mod TypeTable

@@ -1,0 +1,7 @@
+use native.Mathlib.Omega.{arith}
+use Rattle.packet.specs.Fields.{join}
+use Rattle.orbit.proofs.orbit.Orbit.word67.Needs as need
+
+pub returns : need.returns
+unfolding join
+returns c = omega arith

@@ -1,0 +1,5 @@
+//! Orbit records: the samples of a file.
+pub mod items;
+pub mod orbit;
+mod rules;
+pub mod types;

@@ -1,0 +1,4 @@
+//! What every kind of record has: its place in a packet, its rules, its faults.
+pub mod fault;
+pub mod kind;
+pub mod rules;
