@@ -8,5 +8,5 @@ pub fn worked_examples() -> usize
     ensures hold { λ _. ⌜ Hold ⌝ }
     ensures number { λ r. ⌜ r ≡ length examples ⌝ }
 {
-    4
+    16
 }

@@ -6,14 +6,11 @@ use native.Mathlib.Nat.{ℕ-set}
 use native.Mathlib.Omega.{arith}
 use lib.ListN.{getD, length}
 use lib.Dec.{lit<}
-use mir.Syntax.{w32}
-use mir.Val.{SFits, ofZ}
-use lib.IntN.{ℤ}
-use Rattle.std.proofs.shelf.Signed.{ints}
 use Rattle.std.proofs.shelf.Tests.{eqb-true, leb-true}
 use Rattle.packet.specs.Fields.{join}
 use Rattle.packet.proofs.FieldLaws.{join-below}
 use Rattle.record.proofs.Lowest.{kept}
+use Rattle.record.proofs.SignedLaws.{word-below}
 use Rattle.record.proofs.Words.{each-at}
 use Rattle.orbit.specs.OrbitRules.{badOrbit, orbitRules}
 use Rattle.orbit.specs.OrbitWords.{orbitWords, orbitOf, W2, W5, W67, W89, items2, items5, items67, items89}
@@ -78,9 +75,6 @@ timed i e = (
   leb-true (i .millis) 999 (kept 1 (orbitRules i) (lit< tt) e 1 (lit< tt)),
 )
 
-ofZ-below : (z : ℤ) → SFits w32 z → ofZ w32 z < 2 ^ 32
-ofZ-below z h = grind (arith, ints)
-
 pub narrow : (x : Orbit) (k : ℕ) → getD (orbitWords (itemsOf x)) k 0 < 2 ^ 32
 unfolding orbitWords
 narrow x k =
@@ -89,4 +83,4 @@ narrow x k =
     let m = join-below W67 (items67 i) (w .six) in
     let l = join-below W89 (items89 i) (w .eight) in
     let t = timed i (x .lawful) in
-    each-at (orbitWords i) (omega arith, (join-below W2 (items2 i) (w .two), (ofZ-below (i .whole) (w .wholly), (ofZ-below (i .part) (w .partly), (join-below W5 (items5 i) (w .five), (omega arith, (omega arith, (omega arith, (omega arith, tt))))))))) k
+    each-at (orbitWords i) (omega arith, (join-below W2 (items2 i) (w .two), (word-below (i .whole) (w .wholly), (word-below (i .part) (w .partly), (join-below W5 (items5 i) (w .five), (omega arith, (omega arith, (omega arith, (omega arith, tt))))))))) k

@@ -10,10 +10,10 @@ use lib.Dec.{leb, eqb, lit<, lit≤}
 use lib.IntN.{ℤ}
 use lib.ListN.{length, getD}
 use lib.Signed.{mag}
-use mir.Val.{SFits, toZ, ofZ}
+use mir.Val.{toZ, ofZ}
 use mir.Syntax.{w32}
 use Rattle.std.specs.Options.{isSome}
-use Rattle.std.proofs.shelf.Signed.{toZ-ofZ, ofZ-toZ, ints}
+use Rattle.std.proofs.shelf.Signed.{ofZ-toZ, ints}
 use Rattle.std.proofs.shelf.Tests.{and-parts, leb-true, eqb-true}
 use Rattle.std.proofs.shelf.Ways.{tells}
 use Rattle.packet.specs.Fields.{join, split, Fill, total}
@@ -22,6 +22,7 @@ use Rattle.record.specs.Rules.{paired, signed32}
 use Rattle.orbit.specs.OrbitRules.{held, orbitRules, badOrbit, auxiliaryRule, wholeRule, partRule}
 use Rattle.orbit.specs.OrbitWords.{of20, to20, W2, W5, W67, W89, items2, items5, items67, items89, orbitWords, orbitOf, orbitFrom}
 use Rattle.orbit.specs.declared.items.OrbitItems.{OrbitItems}
+use Rattle.record.proofs.SignedLaws.{paired-signed, number-back}
 use Rattle.record.proofs.Words.{nine}
 use Rattle.record.proofs.Lowest.{kept}
 use Rattle.packet.proofs.FieldLaws.{join-split, split-join, join-below}
@@ -33,8 +34,8 @@ pub record Wide (i : OrbitItems) : Type 0 where
   pub six : Fill W67 (items67 i)
   pub eight : Fill W89 (items89 i)
   pub delayed : mag (i .auxiliary) < 2 ^ 19
-  pub wholly : SFits w32 (i .whole)
-  pub partly : SFits w32 (i .part)
+  pub wholly : signed32 (i .whole) ≡ true
+  pub partly : signed32 (i .part) ≡ true
 
 known : (k : ℕ) → isSome (classAt k) ≡ true → k < 64
 unfolding classAt
@@ -48,12 +49,6 @@ delay-mag k n z h = grind (arith, ints)
 
 of20-below : (z : ℤ) → mag z < 2 ^ 19 → of20 z < 2 ^ 20
 of20-below z h = grind (arith, ints)
-
-fits32 : (z : ℤ) → signed32 z ≡ true → SFits w32 z
-fits32 z h = record { sfits = grind (arith, ints) }
-
-part-fits : (k : ℕ) (s f : ℤ) → partRule k s f ≡ true → SFits w32 f
-part-fits k s f h = record { sfits = grind (arith, ints) }
 
 pub wide : (i : OrbitItems) → badOrbit i ≡ 0 → Wide i
 unfolding badOrbit orbitRules
@@ -85,8 +80,8 @@ wide i e =
       six = (omega arith, (omega arith, (omega arith, (omega arith, (omega arith, tt)))));
       eight = (omega arith, (omega arith, (omega arith, tt)));
       delayed = delay;
-      wholly = fits32 (i .whole) (and-parts _ _ (at 3 (lit< tt)) .0);
-      partly = part-fits (i .kind) (i .whole) (i .part) (at 4 (lit< tt));
+      wholly = and-parts _ _ (at 3 (lit< tt)) .0;
+      partly = paired-signed (i .whole) (i .part) (and-parts _ _ (at 4 (lit< tt)) .0);
     }
 
 to20-of20 : (z : ℤ) → mag z < 2 ^ 19 → to20 (of20 z) ≡ z
@@ -105,8 +100,8 @@ pub items-back : (i : OrbitItems) → Wide i → orbitOf (orbitWords i) ≡ i
 unfolding orbitOf orbitWords
 items-back i w =
     assembled i _ _ (i .auxiliary) _ _ _ _
-    (toZ-ofZ w32 (i .whole) (w .wholly))
-    (toZ-ofZ w32 (i .part) (w .partly))
+    (number-back (i .whole) (w .wholly))
+    (number-back (i .part) (w .partly))
     (split-join W2 (items2 i) (w .two))
     (split-join W5 (items5 i) (w .five))
     (ap (split W67) (regroup (join W67 (items67 i))) ∙ split-join W67 (items67 i) (w .six))

@@ -1,11 +1,12 @@
 //! Which items of an orbit record keep their rules.
 ghost use mathlib.Core.Path.{_≡_};
-ghost use Rattle.record.specs.Rules.{within};
 ghost use Rattle.orbit.specs.OrbitRules.{held, oneWay, receiveOnly, noReference, wholeRule, partRule, auxiliaryRule, orbitRules, badOrbit};
 use crate::items::OrbitItems;
 use crate::types::is_angle;
 use crate::types::is_known;
 use record::rules::is_signed_pair;
+use record::rules::is_signed32;
+use record::rules::is_within;
 use record::rules::lowest_broken;
 
 /// At most so much, and zero where it has to be.
@@ -13,12 +14,6 @@ fn is_held(value: u64, most: u64, zero: bool) -> bool
     ensures { λ r. ⌜ r ≡ held value most zero ⌝ }
 {
     value <= most && (!zero || value == 0)
-}
-
-fn is_within(value: u64, least: u64, most: u64) -> bool
-    ensures { λ r. ⌜ r ≡ within least most value ⌝ }
-{
-    least <= value && value <= most
 }
 
 fn is_one_way(kind: u64, transmitter: u64) -> bool
@@ -42,9 +37,7 @@ fn has_no_reference(kind: u64, transmitter: u64, network: u64) -> bool
 fn keeps_whole(kind: u64, whole: i64) -> bool
     ensures { λ r. ⌜ r ≡ wholeRule kind whole ⌝ }
 {
-    whole >= -2_147_483_648
-        && whole <= 2_147_483_647
-        && (kind != 41 || whole >= 0 && whole <= 999_999_999)
+    is_signed32(whole) && (kind != 41 || whole >= 0 && whole <= 999_999_999)
 }
 
 fn keeps_part(kind: u64, whole: i64, part: i64) -> bool
@@ -82,7 +75,7 @@ fn rules(items: &OrbitItems) -> [bool; 22]
         keeps_whole(kind, items.whole),
         keeps_part(kind, items.whole, items.part),
         items.format == 2,
-        is_within(items.receiver, 1, 127),
+        is_within(1, 127, items.receiver),
         is_held(items.transmitter, 127, is_receive_only(kind)),
         items.network <= 3,
         is_known(kind),

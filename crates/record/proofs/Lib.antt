@@ -1,2 +1,4 @@
+pub mod Data
 pub mod Lowest
+pub mod SignedLaws
 pub mod Words

@@ -2,3 +2,4 @@
 pub mod fault;
 pub mod kind;
 pub mod rules;
+pub mod signed;

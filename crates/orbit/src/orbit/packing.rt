@@ -1,10 +1,7 @@
 //! An orbit record as nine words, and as one of the kinds of record.
 ghost use Prim.Native.Nat.{_+_, _*_, _<_, _^_};
 ghost use lib.Signed.{mag};
-ghost use mathlib.Core.Bool.{true};
 ghost use mathlib.Core.Path.{_≡_};
-ghost use mir.Syntax.{w32};
-ghost use mir.Val.{toZ, ofZ, SFits};
 ghost use Rattle.packet.specs.Fields.{join, Fill};
 ghost use Rattle.orbit.specs.OrbitRules.{badOrbit};
 ghost use Rattle.orbit.specs.OrbitWords.{W2, W5, W67, W89, items2, items5, items67, items89, of20, to20, orbitWords, orbitOf};
@@ -15,21 +12,8 @@ use crate::orbit::forming::checked;
 use record::fault::RecordFault;
 use record::kind::Packed;
 use record::kind::RecordKind;
-
-/// A number as a word of two's complement.
-fn word_of(number: i64) -> u32
-    requires { ⌜ SFits w32 number ⌝ }
-    ensures { λ r. ⌜ r ≡ ofZ w32 number ⌝ }
-{
-    (number.cast_unsigned() % 0x1_0000_0000) as u32
-}
-
-/// A word of two's complement as a number.
-fn number_of(word: u32) -> i64
-    ensures { λ r. ⌜ r ≡ toZ w32 word ⌝ }
-{
-    word.cast_signed() as i64
-}
+use record::signed::number_of;
+use record::signed::word_of;
 
 /// The lowest twenty bits of a number.
 fn bits20(number: i64) -> u64

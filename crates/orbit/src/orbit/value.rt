@@ -1,8 +1,8 @@
 //! What an orbit record measured.
 ghost use lib.IntN.{pos, _+ℤ_, _*ℤ_};
+ghost use mathlib.Core.Bool.{true};
 ghost use mathlib.Core.Path.{_≡_};
-ghost use mir.Syntax.{w32};
-ghost use mir.Val.{SFits};
+ghost use Rattle.record.specs.Rules.{signed32};
 ghost use Rattle.orbit.specs.Orbits.{itemsOf};
 ghost use Rattle.orbit.specs.Values.{valueOf, referenceOf};
 use crate::orbit::Orbit;
@@ -18,8 +18,8 @@ pub enum Value {
 
 /// A whole and its billionths joined.
 fn joined(whole: i64, part: i64) -> i64
-    requires whole { ⌜ SFits w32 whole ⌝ }
-    requires part { ⌜ SFits w32 part ⌝ }
+    requires whole { ⌜ signed32 whole ≡ true ⌝ }
+    requires part { ⌜ signed32 part ≡ true ⌝ }
     ensures { λ r. ⌜ r ≡ whole *ℤ pos 1000000000 +ℤ part ⌝ }
 {
     whole * 1_000_000_000 + part

@@ -5,7 +5,7 @@ use lib.IntN.{ℤ, pos, _+ℤ_, _*ℤ_}
 use mir.Syntax.{w64}
 use mir.Val.{SFits, toZ, ofZ}
 use Rattle.std.proofs.shelf.Signed.{toZ-ofZ, toZ-pos}
-use Rattle.std.proofs.shelf.Tests.{eq-eqb, ne-eqb, cond-true, cond-false}
+use Rattle.std.proofs.shelf.Tests.{le-leb, eq-eqb, ne-eqb, cond-true, cond-false}
 use Rattle.orbit.specs.Orbits.{itemsOf}
 use Rattle.orbit.specs.declared.orbit.value.Value.the-variants.{Billionths, Nanoseconds}
 use Rattle.orbit.proofs.OrbitLaws.{wide}
@@ -21,7 +21,7 @@ joined-requires c κs =
     let n = w .six in
     let e : toZ w64 (x .channel) ≡ pos (x .channel) = toZ-pos w64 (x .channel) (omega arith) in
     let f : SFits w64 (x .whole) = search needs in
-    record { whole = rw e (record { sfits = omega arith }); part = simp toZ-ofZ (w .wholly) }
+    record { whole = rw e (le-leb _ _ (omega arith)); part = simp toZ-ofZ (w .wholly) }
 
 pub joined-requires-else-self-eq41 : need.joined-requires-else-self-eq41
 joined-requires-else-self-eq41 c κs =

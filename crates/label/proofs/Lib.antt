@@ -1,0 +1,4 @@
+pub mod Filled
+pub mod HeaderLaws
+pub mod IdentifierLaws
+pub mod LabelLaws

@@ -1,0 +1,17 @@
+use Rattle.label.proofs.LabelLaws.{lawful, apart, nine-words, narrow, headless}
+use Rattle.label.proofs.label.kind.LabelPacked.the-impl.Needs as need
+
+pub lawful-law : need.lawful-law
+lawful-law = lawful
+
+pub apart-law : need.apart-law
+apart-law = apart
+
+pub nine-law : need.nine-law
+nine-law = nine-words
+
+pub narrow-law : need.narrow-law
+narrow-law = narrow
+
+pub headless-law : need.headless-law
+headless-law x e _ = headless x e

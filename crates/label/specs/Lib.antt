@@ -1,0 +1,5 @@
+pub mod Calendar
+pub mod Headers
+pub mod Identifiers
+pub mod LabelRules
+pub mod Labels

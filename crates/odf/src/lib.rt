@@ -1,0 +1,3 @@
+//! Files: picking one record.
+pub mod fault;
+pub mod pick;

@@ -1,0 +1,4 @@
+pub mod ClockRules
+pub mod ClockWords
+pub mod RampRules
+pub mod RampWords

@@ -1,0 +1,3 @@
+//! The records of a station: its clock, and the ramps of its transmitter.
+pub mod clock;
+pub mod ramp;
