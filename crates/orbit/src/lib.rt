@@ -2,4 +2,4 @@
 pub mod items;
 pub mod orbit;
 mod rules;
-pub mod types;
+mod types;

@@ -49,7 +49,7 @@ fn look_up(table: &[(u64, Class)], code: u64) -> Option<Class>
 }
 
 /// The class of a data type; none where there is no such type.
-pub fn class_of(code: u64) -> Option<Class>
+fn class_of(code: u64) -> Option<Class>
     ensures { λ r. ⌜ r ≡ classAt code ⌝ }
 {
     look_up(&TYPES, code)

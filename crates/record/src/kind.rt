@@ -70,7 +70,8 @@ pub fn pack<K: Packed>(from: &K) -> Packet
     ensures bytes { λ r. ⌜ r ≡ bytesOf (K·Packed .packed (now (from .entry))) ⌝ }
     ensures headless { λ r. ⌜ headerLike r ≡ false ⌝ }
 {
-    packet_of(&from.to_words())
+    let words = from.to_words();
+    packet_of(&words)
 }
 
 /// The record of which this is the packet; a packet that is no record's is refused at its lowest bad item.

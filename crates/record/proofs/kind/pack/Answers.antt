@@ -7,5 +7,5 @@ pub returns : need.returns
 returns g c =
     let x = c .args .from .now in
     let m = g .K·Packed·met in
-    let b : c .packet-of .result ≡ bytesOf (g .K·Packed .packed x) = c .packet-of .ensures .bytes ∙ ap bytesOf (c .to-words .ensures) in
+    let b : c .packet-of .result ≡ bytesOf (g .K·Packed .packed x) = c .packet-of .ensures .bytes ∙ ap bytesOf (c .to-words-words .ensures) in
     record { bytes = b; headless = ap headerLike b ∙ no-header (g .K·Packed .packed x) (m .nine x) (m .narrow x) (m .headless x) }
