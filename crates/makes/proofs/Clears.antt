@@ -1,3 +1,4 @@
+-- Clearing: what setting fixed bytes and filling a cell leave.
 use mathlib.Core.Path.{_≡_, refl, sym, _∙_, ap, subst}
 use mathlib.Core.Bool.{cond}
 use mathlib.Core.Logic.{_⊎_, inl, inr, _≢_}

@@ -1,3 +1,4 @@
+-- The cells of a memory: where they lie, that they do not overlap, and what writing one changes.
 use mathlib.Core.Path.{_≡_, refl, sym, _∙_, ap, subst}
 use mathlib.Core.Bool.{Bool, true, false, cond}
 use mathlib.Core.Logic.{_⊎_, inl, inr, _≢_}
