@@ -1,7 +1,7 @@
 #!/usr/bin/env python3
 """Tries odfcopy from outside: tests/odfcopy.py PROGRAM
 
-An independent converter, written from docs/CARRIERS.md, says what each run has to print and write: over all pairs of
+A second converter, in Python and by the same authors, says what each run has to print and write: over all pairs of
 makes, memories of every kind of length, and damaged blocks. Then the lines for wrong calls. The seed is fixed."""
 import os
 import random

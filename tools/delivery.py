@@ -1,5 +1,6 @@
 #!/usr/bin/env python3
-"""Writes the sample delivery: a short orbit data file of Mars Global Surveyor, in 4800-bit blocks.
+"""Writes the sample delivery: a short orbit data file in 4800-bit blocks. Its packets keep every rule of the format, but
+the measurements are invented: no archived file was at hand. Spacecraft 94 and station 45 are real numbers, no more.
 
     tools/delivery.py crates/odfcopy/data/delivery.4800
 

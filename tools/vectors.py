@@ -1,7 +1,7 @@
 #!/usr/bin/env python3
 """Writes the vectors of records: tools/vectors.py crates/vectors
 
-An independent reading of docs/FORMAT.md: for each kind a lawful record, each item at its least and its most, each rule
+A second implementation of the rules in docs/FORMAT.md, in Python and by the same authors, not taken from archived files: for each kind a lawful record, each item at its least and its most, each rule
 broken alone and each pair of rules broken together, and every packet read back. The files stdin and stdout of the
 program `vectors` are written: one vector a line, and what has to be printed for it."""
 import itertools
