@@ -32,6 +32,6 @@ returns c =
     let f : SFits w64 (x .whole) = search needs in
     let g : SFits w64 (x .part) = search needs in
     let w = wide (itemsOf x) (x .lawful) in
-    let a = (simp toZ-ofZ at (c .word-of .ensures)) (w .wholly) in
-    let b = (simp toZ-ofZ at (c .word-of-2 .ensures)) (w .partly) in
+    let a = (simp toZ-ofZ at (c .word-of .ensures .word)) (w .wholly) in
+    let b = (simp toZ-ofZ at (c .word-of-2 .ensures .word)) (w .partly) in
     simp (c .word2 .ensures .is, a, b, c .word5 .ensures .is, c .word67-middle .ensures, c .word89-last .ensures)

@@ -34,6 +34,6 @@ returns c =
     let h = holds x in
     let f : SFits w64 (x .offset) = search needs in
     let g : SFits w64 (x .part) = search needs in
-    let a = (simp toZ-ofZ at (c .word-of .ensures)) (h .offset) in
-    let b = (simp toZ-ofZ at (c .word-of-2 .ensures)) (h .part) in
+    let a = (simp toZ-ofZ at (c .word-of .ensures .word)) (h .offset) in
+    let b = (simp toZ-ofZ at (c .word-of-2 .ensures .word)) (h .part) in
     cc

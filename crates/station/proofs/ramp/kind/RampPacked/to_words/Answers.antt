@@ -40,6 +40,6 @@ returns c =
     let h = holds x in
     let f : SFits w64 (x .rate) = search needs in
     let g : SFits w64 (x .part) = search needs in
-    let a = (simp toZ-ofZ at (c .word-of .ensures)) (h .rate) in
-    let b = (simp toZ-ofZ at (c .word-of-2 .ensures)) (h .part) in
+    let a = (simp toZ-ofZ at (c .word-of .ensures .word)) (h .rate) in
+    let b = (simp toZ-ofZ at (c .word-of-2 .ensures .word)) (h .part) in
     cc
