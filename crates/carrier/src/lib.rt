@@ -1,4 +1,6 @@
 //! A carrier: a row of cells, each of which holds a packet or is damaged.
+#![tactic(auto)]
+
 ghost use Rattle.std.specs.Prelude.{◌≡◌, ◌≤◌, List, length};
 ghost use Rattle.carrier.specs.Cells.{Cell, Kept, Whole, cell_at, reply, filled, stored, first_damage};
 

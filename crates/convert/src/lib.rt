@@ -1,4 +1,6 @@
 //! Converting the packets of a carrier into a memory of any make.
+#![tactic(auto)]
+
 ghost use Rattle.std.specs.Prelude.{◌≡◌, ◌≤◌, [], ◌++◌, length, drop, Ok, MatchResult};
 ghost use Rattle.carrier.specs.Cells.{first_damage};
 ghost use Rattle.makes.specs.Names.{shape_of};

@@ -1,4 +1,6 @@
 //! The worked examples, as one theorem over one table.
+#![tactic(auto)]
+
 ghost use Rattle.std.specs.Prelude.{◌≡◌, length};
 ghost use Rattle.examples.specs.Table.{examples, Hold};
 

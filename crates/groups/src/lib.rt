@@ -1,4 +1,6 @@
 //! The groups of a file.
+#![tactic(auto)]
+
 ghost use Rattle.std.specs.Prelude.{◌≡◌, ◌*◌, ◌≤◌, length};
 ghost use Rattle.reading.specs.Files.{reads};
 ghost use Rattle.groups.specs.Groups.{group_count, listed, shown, Ready};

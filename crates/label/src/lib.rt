@@ -1,4 +1,6 @@
 //! What stands in a file before its records: its identifier, its label and the headers of its groups.
+#![tactic(auto)]
+
 mod calendar;
 pub mod header;
 pub mod identifier;

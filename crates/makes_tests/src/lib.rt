@@ -1,4 +1,5 @@
 //! Tests of the carriers over memory, in a crate of their own so that the makes are not proved twice.
+#![tactic(auto)]
 
 #[cfg(test)]
 mod tests {

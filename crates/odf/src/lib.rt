@@ -1,3 +1,5 @@
 //! Files: picking one record.
+#![tactic(auto)]
+
 pub mod fault;
 pub mod pick;

@@ -1,4 +1,6 @@
 //! odfcopy FROM IN TO OUT: converts the file IN of make FROM into the file OUT of make TO.
+#![tactic(auto)]
+
 mod problem;
 
 ghost use Rattle.std.specs.Prelude.{MatchResult};

@@ -1,4 +1,6 @@
 //! odflist: prints the groups of the file on standard input, a disk image of which the first 64,512 bytes count.
+#![tactic(auto)]
+
 ghost use Rattle.std.specs.Prelude.{◌≤◌, IfOk};
 
 use groups::{GroupRow, groups};

@@ -1,4 +1,6 @@
 //! odfpick MAKE KIND K: prints the record in cell K of the carrier on standard input, item by item.
+#![tactic(auto)]
+
 mod listing;
 mod problem;
 

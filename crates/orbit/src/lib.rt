@@ -1,4 +1,6 @@
 //! Orbit records: the samples of a file.
+#![tactic(auto)]
+
 pub mod items;
 pub mod orbit;
 mod rules;

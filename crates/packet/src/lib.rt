@@ -1,4 +1,6 @@
 //! A packet: 36 bytes, read as nine words of 32 bits.
+#![tactic(auto)]
+
 ghost use Rattle.std.specs.Prelude.{◌≡◌, ◌<◌, ◌≤◌};
 ghost use Rattle.packet.specs.Packets.{word, words_of, bytes_of, header_like};
 

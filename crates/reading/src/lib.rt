@@ -1,4 +1,6 @@
 //! Reading a file.
+#![tactic(auto)]
+
 mod cells;
 mod group;
 mod opening;

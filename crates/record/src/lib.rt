@@ -1,4 +1,6 @@
 //! What every kind of record has: its place in a packet, its rules, its faults.
+#![tactic(auto)]
+
 pub mod fault;
 pub mod kind;
 pub mod rules;

@@ -1,4 +1,6 @@
 //! The recount of a file's orbit records: how many there are of each key, and from when to when.
+#![tactic(auto)]
+
 pub mod key;
 pub mod recount;
 pub mod row;

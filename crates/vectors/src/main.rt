@@ -1,5 +1,7 @@
 //! Runs the vectors of records on standard input, one a line: `form KIND ITEMS` forms a record and prints its packet,
 //! `read KIND PACKET` reads a packet, as number 7, and prints its items; or the refusal.
+#![tactic(auto)]
+
 mod kinds;
 mod words;
 
