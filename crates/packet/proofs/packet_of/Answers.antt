@@ -10,7 +10,7 @@ loop-i-preserved c = (
       (λ k h. let ne : k ≢ c.loop-i.i = omega arith in rw get_or-set_other (c.loop-i.invariant.1 k h))
       (let lt : c.loop-i.i < length c.loop-i.byte-items = omega arith in
       let small : c.loop-i.i % 4 < 4 = omega arith in
-      rw get_or-set_same (ap (λ b. get_or b (c.loop-i.i % 4) 0) c.to-be-bytes.ensures ∙ be_byte _ (c.loop-i.i % 4) small)),
+      rw get_or-set_same (ap (λ b. get_or b (c.loop-i.i % 4) 0) c.to_be_bytes.ensures ∙ be_byte _ (c.loop-i.i % 4) small)),
 )
 
 pub returns : goal.returns

@@ -9,7 +9,7 @@ loop-i-preserved c = (
   below_more _ _
       (λ k h. let ne : k ≢ c.loop-i.i = omega arith in rw get_or-set_other (c.loop-i.invariant.1 k h))
       (let lt : c.loop-i.i < length c.loop-i.place-items = omega arith in
-      rw get_or-set_same (c.word-of.ensures ∙ word_number c.args.packet.now c.loop-i.i)),
+      rw get_or-set_same (c.word_of.ensures ∙ word_number c.args.packet.now c.loop-i.i)),
 )
 
 pub returns : goal.returns
