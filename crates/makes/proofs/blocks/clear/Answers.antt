@@ -8,8 +8,8 @@ use Rattle.makes.proofs.blocks.clear.Goals as goal
 
 pub loop-k-preserved : goal.loop-k-preserved
 loop-k-preserved g c = (
-  below_more _ _ (λ i l. c.clear-cell.ensures.kept i (c.loop-k.invariant.0 i l)) c.clear-cell.ensures.here,
-  λ j h. c.clear-cell.ensures.others j (h c.loop-k.k (omega arith)) ∙ c.loop-k.invariant.1 j (λ i l. h i (omega arith)),
+  below_more _ _ (λ i l. c.clear_cell.ensures.kept i (c.loop-k.invariant.0 i l)) c.clear_cell.ensures.here,
+  λ j h. c.clear_cell.ensures.others j (h c.loop-k.k (omega arith)) ∙ c.loop-k.invariant.1 j (λ i l. h i (omega arith)),
 )
 
 pub returns : goal.returns

@@ -3,16 +3,16 @@ use Rattle.makes.specs.Shapes.{wrong_in}
 use Rattle.makes.proofs.Rows.{fixed-within, wrong_none, wrong_some, wrong_end}
 use Rattle.makes.proofs.blocks.first_wrong.Goals as goal
 
-pub overflow-add-start : goal.overflow-add-start
-overflow-add-start g c =
+pub overflow_add-start : goal.overflow_add-start
+overflow_add-start g c =
     omega (arith, fixed-within g.L.Layout.shape g.met.L.Layout.sound _ c.fixed-place-items.ensures c.loop-place.place-index c.loop-place-test.true)
 
 pub bounds-memory-start : goal.bounds-memory-start
 bounds-memory-start g c =
     omega (arith, fixed-within g.L.Layout.shape g.met.L.Layout.sound _ c.fixed-place-items.ensures c.loop-place.place-index c.loop-place-test.true)
 
-pub overflow-add-result : goal.overflow-add-result
-overflow-add-result g c =
+pub overflow_add-result : goal.overflow_add-result
+overflow_add-result g c =
     omega (arith, fixed-within g.L.Layout.shape g.met.L.Layout.sound _ c.fixed-place-items.ensures c.loop-place.place-index c.loop-place-test.true)
 
 pub returns-then-memory-start : goal.returns-then-memory-start

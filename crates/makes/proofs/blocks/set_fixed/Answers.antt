@@ -4,8 +4,8 @@ use Rattle.makes.proofs.Rows.{fixed-within}
 use Rattle.makes.proofs.Clears.{set_right, set_others, all_right}
 use Rattle.makes.proofs.blocks.set_fixed.Goals as goal
 
-pub overflow-add-memory : goal.overflow-add-memory
-overflow-add-memory g c =
+pub overflow_add-memory : goal.overflow_add-memory
+overflow_add-memory g c =
     omega (arith, fixed-within g.L.Layout.shape g.met.L.Layout.sound _ c.fixed-place-items.ensures c.loop-place.place-index c.loop-place-test.true)
 
 pub bounds-memory-start : goal.bounds-memory-start

@@ -7,5 +7,5 @@ pub returns : goal.returns
 returns g c =
     let x = c.args.from.now in
     let m = g.met.K.Packed in
-    let b : c.packet-of.result ≡ bytes_of (g.K.Packed.packed x) = c.packet-of.ensures.bytes ∙ ap bytes_of c.to-words-words.ensures in
+    let b : c.packet_of.result ≡ bytes_of (g.K.Packed.packed x) = c.packet_of.ensures.bytes ∙ ap bytes_of c.to_words-words.ensures in
     record { bytes = b; headless = ap header_like b ∙ no_header (g.K.Packed.packed x) (m.nine x) (m.narrow x) (m.headless x) }

@@ -12,13 +12,13 @@ returns g c =
     let p = c.args.packet.now in
     let k = g.K.Packed in
     let m = g.met.K.Packed in
-    let v = c.words-of.result in
-    let e = c.words-of.ensures.words in
+    let v = c.words_of.result in
+    let e = c.words_of.ensures.words in
     let n : length v ≡ 9 = search rules in
     let l : (j : ℕ) → get_or v j 0 < 2 ^ 32 = λ j. search rules in
     record {
-      found = MatchResult-weaker c.from-words.result c.from-words.ensures
-          (λ x q. ap bytes_of q ∙ c.words-of.ensures.back)
+      found = MatchResult-weaker c.from_words.result c.from_words.ensures
+          (λ x q. ap bytes_of q ∙ c.words_of.ensures.back)
           (λ y q. (
             λ x f.
                 let z = m.lawful x in
@@ -27,8 +27,8 @@ returns g c =
                 omega (arith, z, b, q.0),
             q.1 ∙ ap (λ w. BadItem c.args.number (k.bad w)) e,
           ));
-      read = judged-plain c.from-words.result (k.unpacked v) c.args.number (k.bad v)
+      read = judged-plain c.from_words.result (k.unpacked v) c.args.number (k.bad v)
           (λ x q. sym (ap k.bad (m.given v x n l q)) ∙ m.lawful x)
-          (MatchResult-weaker c.from-words.result c.from-words.ensures (λ x q. sym (ap k.unpacked q) ∙ m.back x) (λ y q. q))
+          (MatchResult-weaker c.from_words.result c.from_words.ensures (λ x q. sym (ap k.unpacked q) ∙ m.back x) (λ y q. q))
           ∙ ap (λ w. judged c.args.number (k.bad w) 0 (k.unpacked w)) e;
     }

@@ -3,4 +3,4 @@ use Rattle.makes.proofs.Rows.{length_cells}
 use Rattle.makes.proofs.image_mut.ImageMutCarrier.count.Goals as goal
 
 pub returns : goal.returns
-returns g c = record { answer = c.count-of.ensures.answer ∙ sym (length_cells _ _); few = omega arith; whole = c.count-of.ensures.whole }
+returns g c = record { answer = c.count_of.ensures.answer ∙ sym (length_cells _ _); few = omega arith; whole = c.count_of.ensures.whole }
