@@ -7,13 +7,13 @@ use Rattle.convert.specs.Conversion.{placed}
 use Rattle.convert.proofs.Refills.{cleared_whole, cleared_long, refilled}
 use Rattle.convert.proofs.convert.Goals as goal
 
-pub copy-into-requires : goal.copy-into-requires
-copy-into-requires g c =
+pub copy_into-requires : goal.copy_into-requires
+copy_into-requires g c =
     let sh = shape_of c.args.make in
     let t = c.args.target.now in
     let long = cleared_long sh t c.clear.new.memory c.clear.ensures in
     record {
-      whole = sym c.in-ok-check-cells.ensures;
+      whole = sym c.in_ok-check_cells.ensures;
       ready = cleared_whole sh t c.clear.new.memory c.clear.ensures;
       room = omega arith;
     }
@@ -24,9 +24,9 @@ returns g c =
     let us = g.S.Carrier.cells c.args.source.now in
     let t = c.args.target.now in
     let vs = cells_of sh t in
-    let whole : first_damage 0 us ≡ Ok tt = sym c.in-ok-check-cells.ensures in
+    let whole : first_damage 0 us ≡ Ok tt = sym c.in_ok-check_cells.ensures in
     let fits : ltb (length vs) (length us) ≡ false = le-ltb (length vs) (length us) (omega arith) in
     record {
       answers = ap Ok c.count-packets.ensures.answer ∙ sym (ap (placed (length us) (length vs)) whole ∙ cond-false _ _ _ fits);
-      memory = refilled sh us t c.clear.new.memory c.copy-into.new.target c.clear.ensures (omega arith) (omega arith) c.copy-into.ensures.copies c.copy-into.ensures.outside;
+      memory = refilled sh us t c.clear.new.memory c.copy_into.new.target c.clear.ensures (omega arith) (omega arith) c.copy_into.ensures.copies c.copy_into.ensures.outside;
     }

@@ -5,23 +5,23 @@ use Rattle.carrier.proofs.Rows.{whole_at, stored_ok}
 use Rattle.convert.proofs.Copies.{copied_at, copied_more}
 use Rattle.convert.proofs.copy_cells.Goals as goal
 
-pub returns-in-err-get : goal.returns-in-err-get
-returns-in-err-get g c =
+pub returns-in_err-get : goal.returns-in_err-get
+returns-in_err-get g c =
     let us = g.S.Carrier.cells c.args.source.now in
     let k = c.loop-k.k in
     let w = whole_at 0 us k c.requires.whole (omega arith) in
-    let a = c.in-err-get.ensures.answer ∙ ap (reply k) w.1 in
+    let a = c.in_err-get.ensures.answer ∙ ap (reply k) w.1 in
     let z : ◌≡◌ {A = ℕ} 0 1 = cc in
     absurd (omega arith)
 
-pub returns-in-err-put : goal.returns-in-err-put
-returns-in-err-put g c =
+pub returns-in_err-put : goal.returns-in_err-put
+returns-in_err-put g c =
     let us = g.S.Carrier.cells c.args.source.now in
     let vs = g.T.Carrier.cells c.args.target.now in
     let k = c.loop-k.k in
     let w = whole_at 0 vs k c.requires.ready (omega (arith, c.requires.room)) in
     let here = ap (λ x. cell_at x k) c.loop-k.invariant.0 ∙ copied_at us vs k (omega arith) ∙ w.1 in
-    let a = c.in-err-put.ensures.answer ∙ ap (reply k) here in
+    let a = c.in_err-put.ensures.answer ∙ ap (reply k) here in
     let z : ◌≡◌ {A = ℕ} 0 1 = cc in
     absurd (omega arith)
 
@@ -33,7 +33,7 @@ loop-k-preserved g c =
     let k = c.loop-k.k in
     let w = whole_at 0 us k c.requires.whole (omega arith) in
     let p : c.get.new.packet ≡ w.0 = c.get.ensures.fills ∙ ap (λ x. filled x c.loop-k.packet) w.1 in
-    let ok : reply k (cell_at ds k) ≡ Ok tt = sym c.in-ok-put.ensures.answer in (
+    let ok : reply k (cell_at ds k) ≡ Ok tt = sym c.in_ok-put.ensures.answer in (
       c.put.ensures.stores
           ∙ stored_ok ds k c.get.new.packet ok
           ∙ ap (λ x. set x k (holds c.get.new.packet)) c.loop-k.invariant.0

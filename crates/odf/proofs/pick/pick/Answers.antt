@@ -6,13 +6,13 @@ use Rattle.record.proofs.Data.{no_header}
 use Rattle.odf.specs.Picking.{pick_fault}
 use Rattle.odf.proofs.pick.pick.Goals as goal
 
-pub returns-then-is-header-like : goal.returns-then-is-header-like
-returns-then-is-header-like g c =
+pub returns-then-is_header_like : goal.returns-then-is_header_like
+returns-then-is_header_like g c =
     let k = g.K.Packed in
     let m = g.met.K.Packed in
-    let p = c.in-ok-packet.packet in
-    let held = c.in-ok-packet.ensures in
-    let yes' : header_like p ≡ true = sym c.if-is-header-like.ensures in (
+    let p = c.in_ok-packet.packet in
+    let held = c.in_ok-packet.ensures in
+    let yes' : header_like p ≡ true = sym c.if-is_header_like.ensures in (
       sym (ap (pick_fault k.bad c.args.k) held ∙ cond-true _ _ _ yes'),
       λ x e.
           let q : p ≡ bytes_of (k.packed x) = cc in

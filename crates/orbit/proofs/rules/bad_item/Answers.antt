@@ -5,4 +5,4 @@ use Rattle.orbit.proofs.rules.bad_item.Goals as goal
 
 pub returns : goal.returns
 unfolding bad_orbit
-returns c = c.lowest-broken.ensures ∙ ap (lowest 1) c.rules.ensures
+returns c = c.lowest_broken.ensures ∙ ap (lowest 1) c.rules.ensures

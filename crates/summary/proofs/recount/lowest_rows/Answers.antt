@@ -7,7 +7,7 @@ use Rattle.summary.proofs.FoundLaws.{clipped}
 use Rattle.summary.proofs.Laws.{recount}
 use Rattle.summary.proofs.Passes.{seen, note_in, seen_more, total-seen}
 use Rattle.summary.proofs.recount.lowest_rows.Goals as goal
-use Rattle.summary.proofs.recount.lowest_rows.Goals.{in-Some, in-default}
+use Rattle.summary.proofs.recount.lowest_rows.Goals.{in-Some, in_default}
 
 pub loop-k-init : goal.loop-k-init
 unfolding noted over orbits_in
@@ -16,36 +16,36 @@ loop-k-init g c =
     let e : s - s ≡ 0 = omega arith in
     c.clear.ensures ∙ rw e
 
-pub note-record-requires : goal.note-record-requires
-note-record-requires g c =
+pub note_record-requires : goal.note_record-requires
+note_record-requires g c =
     let h = total-seen g.K.Key.lt g.K.Key.keyed c.args.above (g.C.Carrier.cells c.args.carrier.now) c.min-start.result c.loop-k.k in
     let e = ap total_of c.loop-k.invariant in
     (search rules, omega arith)
 
 -- the turn, by what the cell holds
-turn : (g : _) (c : goal.Joined-orbit-at g) →
+turn : (g : _) (c : goal.Joined-orbit_at g) →
     seen g.K.Key.lt g.K.Key.keyed c.args.above (g.C.Carrier.cells c.args.carrier.now) c.min-start.result (c.loop-k.k + 1)
-    ≡ take 64 (note_in g.K.Key.lt g.K.Key.keyed c.args.above c.orbit-at.result (rows_in c.loop-k.table))
+    ≡ take 64 (note_in g.K.Key.lt g.K.Key.keyed c.args.above c.orbit_at.result (rows_in c.loop-k.table))
 turn g c =
     let lt = g.K.Key.lt in
     let of = g.K.Key.keyed in
     let cells = g.C.Carrier.cells c.args.carrier.now in
     seen_more lt of g.met.K.Key.ordered c.args.above cells c.min-start.result c.loop-k.k (omega arith) (omega arith)
-    ∙ ap (λ z. take 64 (note_in lt of c.args.above z (seen lt of c.args.above cells c.min-start.result c.loop-k.k))) (sym c.orbit-at.ensures)
-    ∙ ap (λ z. take 64 (note_in lt of c.args.above c.orbit-at.result z)) (sym c.loop-k.invariant)
+    ∙ ap (λ z. take 64 (note_in lt of c.args.above z (seen lt of c.args.above cells c.min-start.result c.loop-k.k))) (sym c.orbit_at.ensures)
+    ∙ ap (λ z. take 64 (note_in lt of c.args.above c.orbit_at.result z)) (sym c.loop-k.invariant)
 
 pub loop-k-preserved : goal.loop-k-preserved
 loop-k-preserved g c =
     let lt = g.K.Key.lt in
     let of = g.K.Key.keyed in
     let rows = rows_in c.loop-k.table in
-    elim c.match-orbit-at.branch [
+    elim c.match-orbit_at.branch [
       | in-Some w ↦
-          ap (λ z. rows_in z) w.table-is ∙ w.note-record.ensures ∙ ap (λ z. take 64 (note_in lt of c.args.above z rows)) (sym w.in-Some.is) ∙ sym (turn g c)
-      | in-default w ↦
+          ap (λ z. rows_in z) w.table-is ∙ w.note_record.ensures ∙ ap (λ z. take 64 (note_in lt of c.args.above z rows)) (sym w.in-Some.is) ∙ sym (turn g c)
+      | in_default w ↦
           ap (λ z. rows_in z) w.table-is
           ∙ sym (take_all 64 rows (rw length-take (omega arith)))
-          ∙ ap (λ z. take 64 (note_in lt of c.args.above z rows)) (sym w.in-default.is)
+          ∙ ap (λ z. take 64 (note_in lt of c.args.above z rows)) (sym w.in_default.is)
           ∙ sym (turn g c)
     ]
 

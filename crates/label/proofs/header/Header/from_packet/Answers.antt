@@ -5,5 +5,5 @@ use Rattle.label.proofs.header.Header.from_packet.Goals as goal
 
 pub returns : goal.returns
 returns c =
-    read c.args.packet.now c.words-of-words.result _ c.words-of-words.ensures.words
-    (to_z-of_z w32 c.cast-signed.result (record { sfits = c.cast-signed.type-inv }) ∙ c.cast-signed.ensures)
+    read c.args.packet.now c.words_of-words.result _ c.words_of-words.ensures.words
+    (to_z-of_z w32 c.cast_signed.result (record { sfits = c.cast_signed.type_inv }) ∙ c.cast_signed.ensures)

@@ -8,7 +8,7 @@ pub returns : goal.returns
 unfolding header_words
 returns c =
     let h = c.args.self.now in
-    let p = c.packet-of.result in
-    let same : c.cast-unsigned.result ∷ h.secondary ∷ h.length ∷ h.packet ∷ 0 ∷ 0 ∷ 0 ∷ 0 ∷ 0 ∷ [] ≡ header_words h = search rules in
-    let words : header_words h ≡ words_of p = sym (c.packet-of.ensures.back ∙ same) in
-    record { bytes = c.packet-of.ensures.bytes ∙ ap bytes_of same; header = like h p words; back = back h p (search rules) words }
+    let p = c.packet_of.result in
+    let same : c.cast_unsigned.result ∷ h.secondary ∷ h.length ∷ h.packet ∷ 0 ∷ 0 ∷ 0 ∷ 0 ∷ 0 ∷ [] ≡ header_words h = search rules in
+    let words : header_words h ≡ words_of p = sym (c.packet_of.ensures.back ∙ same) in
+    record { bytes = c.packet_of.ensures.bytes ∙ ap bytes_of same; header = like h p words; back = back h p (search rules) words }

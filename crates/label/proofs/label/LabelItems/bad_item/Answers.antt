@@ -9,10 +9,10 @@ pub returns : goal.returns
 unfolding bad_label
 returns c =
     let i = c.args.self.now in
-    let system = c.text-rules.ensures in
-    let program = c.text-rules-2.ensures in
+    let system = c.text_rules.ensures in
+    let program = c.text_rules-2.ensures in
     let spacecraft : c.if-self-ge1.spacecraft ≡ within 1 1023 i.spacecraft = grind (arith, nat_tests) in
-    let date = c.is-date-date.ensures in
-    let time = c.is-time-time.ensures in
+    let date = c.is_date-date.ensures in
+    let time = c.is_time-time.ensures in
     let refdate : c.if-self-eq0.refdate ≡ (eqb i.refdate 0 || eqb i.refdate 19500101) = grind (arith, nat_tests) in
-    c.lowest-broken.ensures ∙ (λ k. lowest 1 (eight (system k) (eight (program k) (spacecraft k ∷ date k ∷ time k ∷ refdate k ∷ eqb i.reftime 0 ∷ []))))
+    c.lowest_broken.ensures ∙ (λ k. lowest 1 (eight (system k) (eight (program k) (spacecraft k ∷ date k ∷ time k ∷ refdate k ∷ eqb i.reftime 0 ∷ []))))

@@ -6,8 +6,8 @@ use Rattle.orbit.specs.declared.orbit.value.Value.TheVariants.{Billionths, Nanos
 use Rattle.orbit.specs.OrbitLaws.{wide}
 use Rattle.orbit.proofs.orbit.Orbit.value.Goals as goal
 
-pub overflow-cast-self : goal.overflow-cast-self
-overflow-cast-self c = let w = (wide (items_of c.args.self.now) c.args.self.now.lawful).six in record { sfits = omega arith }
+pub overflow_cast-self : goal.overflow_cast-self
+overflow_cast-self c = let w = (wide (items_of c.args.self.now) c.args.self.now.lawful).six in record { sfits = omega arith }
 
 pub joined-requires : goal.joined-requires
 joined-requires c =
@@ -34,7 +34,7 @@ returns-then-self-eq41 c =
     let g : SFits w64 x.part = search rules in
     let e : to_z w64 x.channel ≡ pos x.channel = to_z_pos w64 x.channel (omega arith) in
     let j : to_z w64 (of_z w64 c.joined.result) ≡ pos x.channel *ℤ pos 1000000000 +ℤ x.whole =
-    to_z-of_z w64 c.joined.result (record { sfits = c.joined.type-inv })
+    to_z-of_z w64 c.joined.result (record { sfits = c.joined.type_inv })
     ∙ c.joined.ensures
     ∙ ap (λ (v : ℤ). v *ℤ pos 1000000000 +ℤ to_z w64 (of_z w64 x.whole)) e
     ∙ ap (λ (v : ℤ). pos x.channel *ℤ pos 1000000000 +ℤ v) (to_z-of_z w64 x.whole f) in
@@ -48,7 +48,7 @@ returns-else-self-eq41 c =
     let f : SFits w64 x.whole = search rules in
     let g : SFits w64 x.part = search rules in
     let j : to_z w64 (of_z w64 c.joined-else-self-eq41.result) ≡ x.whole *ℤ pos 1000000000 +ℤ x.part =
-    to_z-of_z w64 c.joined-else-self-eq41.result (record { sfits = c.joined-else-self-eq41.type-inv })
+    to_z-of_z w64 c.joined-else-self-eq41.result (record { sfits = c.joined-else-self-eq41.type_inv })
     ∙ c.joined-else-self-eq41.ensures
     ∙ ap (λ (v : ℤ). v *ℤ pos 1000000000 +ℤ to_z w64 (of_z w64 x.part)) (to_z-of_z w64 x.whole f)
     ∙ ap (λ (v : ℤ). x.whole *ℤ pos 1000000000 +ℤ v) (to_z-of_z w64 x.part g) in

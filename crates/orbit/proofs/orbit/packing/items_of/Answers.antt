@@ -11,6 +11,6 @@ returns c =
     taken w ((get_or w 5 0 * 2 ^ 32) % 2 ^ 64 + get_or w 6 0) ((get_or w 7 0 * 2 ^ 32) % 2 ^ 64 + get_or w 8 0) _ _ _
     (omega arith)
     (omega arith)
-    (to_z-of_z w64 c.number-of.result (record { sfits = c.number-of.type-inv }) ∙ c.number-of.ensures)
-    (to_z-of_z w64 c.number-of-2.result (record { sfits = c.number-of-2.type-inv }) ∙ c.number-of-2.ensures)
-    (to_z-of_z w64 c.signed20.result (record { sfits = c.signed20.type-inv }) ∙ c.signed20.ensures)
+    (to_z-of_z w64 c.number_of.result (record { sfits = c.number_of.type_inv }) ∙ c.number_of.ensures)
+    (to_z-of_z w64 c.number_of-2.result (record { sfits = c.number_of-2.type_inv }) ∙ c.number_of-2.ensures)
+    (to_z-of_z w64 c.signed20.result (record { sfits = c.signed20.type_inv }) ∙ c.signed20.ensures)

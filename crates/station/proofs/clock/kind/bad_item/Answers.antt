@@ -8,7 +8,7 @@ unfolding bad_clock
 returns c =
     let f : SFits w64 c.args.items.now.offset = search rules in
     let g : SFits w64 c.args.items.now.part = search rules in
-    let s = simp to_z-of_z at c.is-signed32.ensures in
-    let p = simp to_z-of_z at c.is-signed-pair.ensures in
-    let q = c.is-within.ensures in
-    simp (← s, ← p, ← q) c.lowest-broken.ensures
+    let s = simp to_z-of_z at c.is_signed32.ensures in
+    let p = simp to_z-of_z at c.is_signed_pair.ensures in
+    let q = c.is_within.ensures in
+    simp (← s, ← p, ← q) c.lowest_broken.ensures

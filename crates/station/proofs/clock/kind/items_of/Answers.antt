@@ -6,6 +6,6 @@ use Rattle.station.proofs.clock.kind.items_of.Goals as goal
 pub returns : goal.returns
 unfolding clock_of
 returns c =
-    let f : SFits w64 c.number-of.result = search rules in
-    let g : SFits w64 c.number-of-2.result = search rules in
+    let f : SFits w64 c.number_of.result = search rules in
+    let g : SFits w64 c.number_of-2.result = search rules in
     simp to_z-of_z (cc)

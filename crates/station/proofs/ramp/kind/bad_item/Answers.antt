@@ -8,8 +8,8 @@ unfolding bad_ramp
 returns c =
     let f : SFits w64 c.args.items.now.rate = search rules in
     let g : SFits w64 c.args.items.now.part = search rules in
-    let s = simp to_z-of_z at c.is-signed32.ensures in
-    let p = simp to_z-of_z at c.is-signed-pair.ensures in
-    let q = c.is-within.ensures in
-    let e = c.is-ended.ensures in
-    simp (← s, ← p, ← q, ← e) c.lowest-broken.ensures
+    let s = simp to_z-of_z at c.is_signed32.ensures in
+    let p = simp to_z-of_z at c.is_signed_pair.ensures in
+    let q = c.is_within.ensures in
+    let e = c.is_ended.ensures in
+    simp (← s, ← p, ← q, ← e) c.lowest_broken.ensures

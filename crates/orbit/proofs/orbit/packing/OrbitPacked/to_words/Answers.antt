@@ -12,8 +12,8 @@ word67-middle-requires c = (wide (items_of c.args.self.now) c.args.self.now.lawf
 pub word89-last-requires : goal.word89-last-requires
 word89-last-requires c = let w = wide (items_of c.args.self.now) c.args.self.now.lawful in record { fill = w.eight; small = w.delayed }
 
-pub overflow-cast-result : goal.overflow-cast-result
-overflow-cast-result c = let t = timed (items_of c.args.self.now) c.args.self.now.lawful in omega arith
+pub overflow_cast-result : goal.overflow_cast-result
+overflow_cast-result c = let t = timed (items_of c.args.self.now) c.args.self.now.lawful in omega arith
 
 pub word2-requires : goal.word2-requires
 word2-requires c = (wide (items_of c.args.self.now) c.args.self.now.lawful).two
@@ -28,6 +28,6 @@ returns c =
     let f : SFits w64 x.whole = search rules in
     let g : SFits w64 x.part = search rules in
     let w = wide (items_of x) x.lawful in
-    let a = (simp to_z-of_z at c.word-of.ensures.word) w.wholly in
-    let b = (simp to_z-of_z at c.word-of-2.ensures.word) w.partly in
+    let a = (simp to_z-of_z at c.word_of.ensures.word) w.wholly in
+    let b = (simp to_z-of_z at c.word_of-2.ensures.word) w.partly in
     simp (c.word2.ensures.is, a, b, c.word5.ensures.is, c.word67-middle.ensures, c.word89-last.ensures)

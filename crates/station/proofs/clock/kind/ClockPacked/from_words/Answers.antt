@@ -5,4 +5,4 @@ use Rattle.station.proofs.clock.kind.ClockPacked.from_words.Goals as goal
 
 pub returns-in-Ok : goal.returns-in-Ok
 returns-in-Ok c =
-    ap clock_words (c.in-Ok.ensures ∙ c.items-of.ensures) ∙ words_back c.args.words.now (search rules) (search rules) (search rules)
+    ap clock_words (c.in-Ok.ensures ∙ c.items_of.ensures) ∙ words_back c.args.words.now (search rules) (search rules) (search rules)
