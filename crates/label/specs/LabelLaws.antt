@@ -1,6 +1,8 @@
 -- What the rules of a label say of its words, and that its words and its items are one another's inverse.
 use Rattle.std.specs.Prelude.{◌≡◌, ℕ, ◌+◌, ◌*◌, ◌/◌, ◌%◌, ◌^◌, ◌<◌, Bool, true, false, List, ◌∷◌, length, Some, ◌≢◌, slice_index, slice_index_or, refl}
 use Rattle.std.proofs.Common.{◌∙◌, ap, sym, arith, lit<}
+use Rattle.std.proofs.Math.Nat.{ℕ_set}
+use Rattle.std.proofs.Math.Bridge.{le_prop}
 use Rattle.std.proofs.lemmas.Nat.{shr_split}
 use Rattle.std.proofs.lemmas.Bool.Decides.{nat_tests}
 use Rattle.record.proofs.Forming.{Forming, apart_by, forms, formed_items}
@@ -8,7 +10,7 @@ use Rattle.record.proofs.Lowest.{kept}
 use Rattle.record.proofs.Words.{nine, each_at}
 use Rattle.label.specs.Calendar.{is_date, is_time}
 use Rattle.label.specs.LabelRules.{label_rules, bad_label, unfit, label_words, label_of}
-use Rattle.label.specs.Fits.{unfit-none}
+use Rattle.label.specs.Fits.{fits_lawful, fits_narrow, unfit-none}
 use Rattle.label.specs.Labels.{items_of, made, packed, unpacked}
 use Rattle.label.specs.declared.label.LabelItems.{LabelItems}
 use Rattle.label.specs.declared.label.Label.{Label}
@@ -68,8 +70,26 @@ none-bad x = x.lawful
 pub narrow_label : (x : Label) → Narrow (items_of x)
 narrow_label x = narrow_items (items_of x) (none-bad x)
 
+-- a label made of its own items is that label
+whole : (x : Label) (e : unfit (items_of x) ≡ 0) → made (items_of x) e ≡ x
+whole x e =
+    λ k. record {
+      system = x.system;
+      program = x.program;
+      spacecraft = x.spacecraft;
+      date = x.date;
+      time = x.time;
+      refdate = x.refdate;
+      reftime = x.reftime;
+      lawful = ℕ_set (bad_label (items_of x)) 0 (fits_lawful (items_of x) e) x.lawful k;
+      narrow = (le_prop (fits_narrow (items_of x) e).0 x.narrow.0 k, le_prop (fits_narrow (items_of x) e).1 x.narrow.1 k);
+    }
+
+fits : (x : Label) → unfit (items_of x) ≡ 0
+fits x = unfit-none (items_of x) x.lawful x.narrow.0 x.narrow.1
+
 abbrev forming : Forming LabelItems Label
-forming = record { bad = unfit; made = made; items = items_of; kept = λ x. unfit-none (items_of x) x.lawful x.narrow.0 x.narrow.1; whole = λ x. refl; exact = λ i e. refl }
+forming = record { bad = unfit; made = made; items = items_of; kept = fits; whole = λ x. whole x (fits x); exact = λ i e. refl }
 
 pub back : (x : Label) → unpacked (packed x) ≡ Some x
 back x = forms forming x (label_of (packed x)) (items_back (items_of x))
