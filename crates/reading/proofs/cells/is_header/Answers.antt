@@ -2,7 +2,7 @@ use Rattle.std.proofs.Common.{◌≡◌, get_or, sym, ap, ◌∙◌, lit<, rules
 use Rattle.packet.proofs.PacketLaws.{words_at}
 use Rattle.reading.proofs.cells.is_header.Goals as goal
 
-pub returns-then-is-header-like : goal.returns-then-is-header-like
-returns-then-is-header-like c =
-    let w = ap (λ v. get_or v 0 0) c.words-of.ensures.words ∙ words_at c.args.packet.now 0 (lit< tt) in
+pub returns-then-is_header_like : goal.returns-then-is_header_like
+returns-then-is_header_like c =
+    let w = ap (λ v. get_or v 0 0) c.words_of.ensures.words ∙ words_at c.args.packet.now 0 (lit< tt) in
     search rules

@@ -6,32 +6,32 @@ use Rattle.reading.specs.Reading.{opened, records}
 use Rattle.reading.proofs.Walks.{grouped-err, grouped-few, grouped-ok}
 use Rattle.reading.proofs.group.walk_group.Goals as goal
 
-pub returns-in-err-records : goal.returns-in-err-records
-returns-in-err-records g c =
+pub returns-in_err-records : goal.returns-in_err-records
+returns-in_err-records g c =
     let cs = g.C.Carrier.cells c.args.carrier.now in
     let κ = kind_by g.K.Packed.packed g.K.Packed.unpacked g.K.Packed.bad g.K.RecordKind.foreign g.K.RecordKind.instant g.K.RecordKind.until in
     let at = c.args.at in
-    let s = c.in-ok-secondary.secondary in
-    let h = sym c.in-ok-packet.ensures.answer in
-    let e = ap (λ v. opened v 1 c.args.bounds at c.in-ok-packet.packet) (sym c.key-of.ensures) ∙ sym c.in-ok-secondary.ensures in
-    let own = ap (λ v. seen length (records κ v (at + 1) 0 (drop (at + 1) cs))) c.owner-of.ensures in
-    let p = err_from_is_err_and c.from-residual-in-err-records.result c.from-residual-in-err-records.ensures.1 in
+    let s = c.in_ok-secondary.secondary in
+    let h = sym c.in_ok-packet.ensures.answer in
+    let e = ap (λ v. opened v 1 c.args.bounds at c.in_ok-packet.packet) (sym c.key_of.ensures) ∙ sym c.in_ok-secondary.ensures in
+    let own = ap (λ v. seen length (records κ v (at + 1) 0 (drop (at + 1) cs))) c.owner_of.ensures in
+    let p = err_from_is_err_and c.from_residual-in_err-records.result c.from_residual-in_err-records.ensures.1 in
     record {
-      answer = p.1 ∙ ap Err p.2 ∙ grouped-err κ g.K.RecordKind.key g.K.RecordKind.least c.args.bounds c.args.owner cs at s c.in-ok-packet.packet h e _ (c.in-err-records.ensures.answer ∙ own);
-      within = MatchResult-from_err c.from-residual-in-err-records.result _ _ c.from-residual-in-err-records.ensures.0 (λ _. tt);
+      answer = p.1 ∙ ap Err p.2 ∙ grouped-err κ g.K.RecordKind.key g.K.RecordKind.least c.args.bounds c.args.owner cs at s c.in_ok-packet.packet h e _ (c.in_err-records.ensures.answer ∙ own);
+      within = MatchResult-from_err c.from_residual-in_err-records.result _ _ c.from_residual-in_err-records.ensures.0 (λ _. tt);
     }
 
-pub returns-then-records-least-of : goal.returns-then-records-least-of
-returns-then-records-least-of g c =
+pub returns-then-records-least_of : goal.returns-then-records-least_of
+returns-then-records-least_of g c =
     let cs = g.C.Carrier.cells c.args.carrier.now in
     let κ = kind_by g.K.Packed.packed g.K.Packed.unpacked g.K.Packed.bad g.K.RecordKind.foreign g.K.RecordKind.instant g.K.RecordKind.until in
     let at = c.args.at in
-    let s = c.in-ok-secondary.secondary in
-    let h = sym c.in-ok-packet.ensures.answer in
-    let e = ap (λ v. opened v 1 c.args.bounds at c.in-ok-packet.packet) (sym c.key-of.ensures) ∙ sym c.in-ok-secondary.ensures in
-    let own = ap (λ v. seen length (records κ v (at + 1) 0 (drop (at + 1) cs))) c.owner-of.ensures in
+    let s = c.in_ok-secondary.secondary in
+    let h = sym c.in_ok-packet.ensures.answer in
+    let e = ap (λ v. opened v 1 c.args.bounds at c.in_ok-packet.packet) (sym c.key_of.ensures) ∙ sym c.in_ok-secondary.ensures in
+    let own = ap (λ v. seen length (records κ v (at + 1) 0 (drop (at + 1) cs))) c.owner_of.ensures in
     record {
-      answer = grouped-few κ g.K.RecordKind.key g.K.RecordKind.least c.args.bounds c.args.owner cs at s c.in-ok-packet.packet h e _ (c.in-ok-records.ensures.answer ∙ own) (search rules);
+      answer = grouped-few κ g.K.RecordKind.key g.K.RecordKind.least c.args.bounds c.args.owner cs at s c.in_ok-packet.packet h e _ (c.in_ok-records.ensures.answer ∙ own) (search rules);
       within = tt;
     }
 
@@ -40,11 +40,11 @@ returns g c =
     let cs = g.C.Carrier.cells c.args.carrier.now in
     let κ = kind_by g.K.Packed.packed g.K.Packed.unpacked g.K.Packed.bad g.K.RecordKind.foreign g.K.RecordKind.instant g.K.RecordKind.until in
     let at = c.args.at in
-    let s = c.in-ok-secondary.secondary in
-    let h = sym c.in-ok-packet.ensures.answer in
-    let e = ap (λ v. opened v 1 c.args.bounds at c.in-ok-packet.packet) (sym c.key-of.ensures) ∙ sym c.in-ok-secondary.ensures in
-    let own = ap (λ v. seen length (records κ v (at + 1) 0 (drop (at + 1) cs))) c.owner-of.ensures in
+    let s = c.in_ok-secondary.secondary in
+    let h = sym c.in_ok-packet.ensures.answer in
+    let e = ap (λ v. opened v 1 c.args.bounds at c.in_ok-packet.packet) (sym c.key_of.ensures) ∙ sym c.in_ok-secondary.ensures in
+    let own = ap (λ v. seen length (records κ v (at + 1) 0 (drop (at + 1) cs))) c.owner_of.ensures in
     record {
-      answer = grouped-ok κ g.K.RecordKind.key g.K.RecordKind.least c.args.bounds c.args.owner cs at s c.in-ok-packet.packet h e _ (c.in-ok-records.ensures.answer ∙ own) (search rules);
-      within = c.in-ok-records.ensures.within;
+      answer = grouped-ok κ g.K.RecordKind.key g.K.RecordKind.least c.args.bounds c.args.owner cs at s c.in_ok-packet.packet h e _ (c.in_ok-records.ensures.answer ∙ own) (search rules);
+      within = c.in_ok-records.ensures.within;
     }

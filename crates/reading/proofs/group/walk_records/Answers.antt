@@ -12,13 +12,13 @@ loop-k-preserved g c =
     let κ = kind_by g.K.Packed.packed g.K.Packed.unpacked g.K.Packed.bad g.K.RecordKind.foreign g.K.RecordKind.instant g.K.RecordKind.until in
     let k = c.loop-k.k in
     let o = c.args.owner in
-    let x = c.in-ok-found.found in
+    let x = c.in_ok-found.found in
     let n : k + 1 - c.args.first ≡ k - c.args.first + 1 = omega (arith, c.loop-k.invariant.1) in
-    let on = records-on κ o cs k c.loop-k.last c.in-ok-packet.packet (sym c.in-ok-packet.ensures.answer) x (search rules) (sym c.in-ok-found.ensures) (search rules) in
+    let on = records-on κ o cs k c.loop-k.last c.in_ok-packet.packet (sym c.in_ok-packet.ensures.answer) x (search rules) (sym c.in_ok-found.ensures) (search rules) in
     let rest = records κ o (suc k) (g.K.RecordKind.until x) (drop (suc k) cs) in (
       c.loop-k.invariant.0,
       omega (arith, c.loop-k.invariant.1),
-      (λ i. seen (onto (n i)) (records κ o (add-one k i) (c.end-time-last.ensures i) (drop (add-one k i) cs)))
+      (λ i. seen (onto (n i)) (records κ o (add-one k i) (c.end_time-last.ensures i) (drop (add-one k i) cs)))
           ∙ onto-more (k - c.args.first) x rest
           ∙ ap (seen (onto (k - c.args.first))) (sym on)
           ∙ c.loop-k.invariant.2,

@@ -8,16 +8,16 @@ use Rattle.reading.specs.Reading.{identified}
 use Rattle.reading.proofs.Walks.{data_at_lem, identified_err}
 use Rattle.reading.proofs.opening.read_identifier.Goals as goal
 
-pub returns-in-err-check-identifier : goal.returns-in-err-check-identifier
-returns-in-err-check-identifier g c =
-    let e = err_from_is_err_and c.from-residual-in-err-check-identifier.result c.from-residual-in-err-check-identifier.ensures.1 in
-    let p = c.in-ok-packet.packet in
-    let f = c.in-err-check-identifier.ensures in
+pub returns-in_err-check_identifier : goal.returns-in_err-check_identifier
+returns-in_err-check_identifier g c =
+    let e = err_from_is_err_and c.from_residual-in_err-check_identifier.result c.from_residual-in_err-check_identifier.ensures.1 in
+    let p = c.in_ok-packet.packet in
+    let f = c.in_err-check_identifier.ensures in
     let wrong = identified_err 3 (bad_identifier p) (λ z. f.0 (identifier-laws.same p (search rules) z)) in
-    e.1 ∙ ap Err (e.2 ∙ ap InRecord f.1) ∙ sym (data_at_lem (λ k q. identified k (bad_identifier q)) 3 (drop 3 (g.C.Carrier.cells c.args.carrier.now)) p (sym c.in-ok-packet.ensures) ∙ ap (lifted InRecord) wrong)
+    e.1 ∙ ap Err (e.2 ∙ ap InRecord f.1) ∙ sym (data_at_lem (λ k q. identified k (bad_identifier q)) 3 (drop 3 (g.C.Carrier.cells c.args.carrier.now)) p (sym c.in_ok-packet.ensures) ∙ ap (lifted InRecord) wrong)
 
 pub returns : goal.returns
 returns g c =
-    let p = c.in-ok-packet.packet in
-    let right = ap (λ v. identified 3 (bad_identifier v)) c.in-ok-check-identifier.ensures ∙ ap (identified 3) identifier-laws.none in
-    sym (data_at_lem (λ k q. identified k (bad_identifier q)) 3 (drop 3 (g.C.Carrier.cells c.args.carrier.now)) p (sym c.in-ok-packet.ensures) ∙ ap (lifted InRecord) right)
+    let p = c.in_ok-packet.packet in
+    let right = ap (λ v. identified 3 (bad_identifier v)) c.in_ok-check_identifier.ensures ∙ ap (identified 3) identifier-laws.none in
+    sym (data_at_lem (λ k q. identified k (bad_identifier q)) 3 (drop 3 (g.C.Carrier.cells c.args.carrier.now)) p (sym c.in_ok-packet.ensures) ∙ ap (lifted InRecord) right)

@@ -7,4 +7,4 @@ use Rattle.reading.proofs.Walks.{data_at_lem}
 use Rattle.reading.proofs.opening.read_label.Goals as goal
 
 pub returns : goal.returns
-returns g c = sym (data_at_lem (plain unpacked bad) 1 (drop 1 (g.C.Carrier.cells c.args.carrier.now)) _ (sym c.in-ok-packet.ensures) ∙ ap (lifted InRecord) (sym c.in-ok-unpack.ensures.read))
+returns g c = sym (data_at_lem (plain unpacked bad) 1 (drop 1 (g.C.Carrier.cells c.args.carrier.now)) _ (sym c.in_ok-packet.ensures) ∙ ap (lifted InRecord) (sym c.in_ok-unpack.ensures.read))

@@ -5,8 +5,8 @@ use Rattle.reading.proofs.read.read_both.Goals as goal
 
 pub returns : goal.returns
 returns g c =
-    let a = c.in-ok-first.ensures in
-    let b = c.in-ok-second.ensures in
+    let a = c.in_ok-first.ensures in
+    let b = c.in_ok-second.ensures in
     record {
       answer = λ i. both (a.answer i) (b.answer i);
       law = telling (g.C.Carrier.cells c.args.one.now) (g.D.Carrier.cells c.args.other.now) _ _ a.few b.few a.file b.file;

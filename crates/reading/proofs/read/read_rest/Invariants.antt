@@ -11,4 +11,4 @@ invariant-loop-turn g l =
     let n = l.initial.orbits in
     let rows = rows_over n cs in
     let w = l.walk in
-    (l.initial.cells ≡ length cs) × (Counts w) × (w.report.orbits ≡ n) × (seen (reported w rows) (onward (length cs - l.-turn) w.stage rows w.report.end (drop w.report.end cs)) ≡ seen (reported (start n) rows) (onward (length cs) Orbits rows (5 + n) (drop (5 + n) cs)))
+    (l.initial.cells ≡ length cs) × (Counts w) × (w.report.orbits ≡ n) × (seen (reported w rows) (onward (length cs - l._turn) w.stage rows w.report.end (drop w.report.end cs)) ≡ seen (reported (start n) rows) (onward (length cs) Orbits rows (5 + n) (drop (5 + n) cs)))

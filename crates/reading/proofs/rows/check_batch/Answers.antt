@@ -6,16 +6,16 @@ use Rattle.summary.specs.Tables.{rows_in}
 use Rattle.reading.specs.Reading.{rows_at}
 use Rattle.reading.proofs.Batches.{row-err, row_ok, row_none, length_rows}
 use Rattle.reading.proofs.rows.check_batch.Goals as goal
-use Rattle.reading.proofs.rows.check_batch.Goals.{in-Some+in-ok-check-row, in-default}
+use Rattle.reading.proofs.rows.check_batch.Goals.{in-Some+in_ok-check_row, in_default}
 
-pub returns-in-err-check-row : goal.returns-in-err-check-row
-returns-in-err-check-row g c =
+pub returns-in_err-check_row : goal.returns-in_err-check_row
+returns-in_err-check_row g c =
     let cs = g.C.Carrier.cells c.args.carrier.now in
-    let p = err_from_is_err_and c.from-residual.result c.from-residual.ensures.1 in
+    let p = err_from_is_err_and c.from_residual.result c.from_residual.ensures.1 in
     let h = sym c.row.ensures ∙ c.in-Some.is in
     record {
-      answer = p.1 ∙ ap Err p.2 ∙ sym (row-err row_packet (rows_in c.args.table.now) cs c.args.first c.loop-i.i _ h _ c.in-err-check-row.ensures.answer) ∙ c.loop-i.invariant.2;
-      within = MatchResult-from_err c.from-residual.result _ _ c.from-residual.ensures.0 (λ _. tt);
+      answer = p.1 ∙ ap Err p.2 ∙ sym (row-err row_packet (rows_in c.args.table.now) cs c.args.first c.loop-i.i _ h _ c.in_err-check_row.ensures.answer) ∙ c.loop-i.invariant.2;
+      within = MatchResult-from_err c.from_residual.result _ _ c.from_residual.ensures.0 (λ _. tt);
     }
 
 pub loop-i-preserved : goal.loop-i-preserved
@@ -23,12 +23,12 @@ loop-i-preserved g c =
     let cs = g.C.Carrier.cells c.args.carrier.now in
     let rows = rows_in c.args.table.now in
     elim c.match-row.branch [
-      | in-Some+in-ok-check-row w ↦
+      | in-Some+in_ok-check_row w ↦
           let h = sym c.row.ensures ∙ w.in-Some.is in
-          let a = w.in-ok-check-row.ensures in
+          let a = w.in_ok-check_row.ensures in
           (c.loop-i.invariant.0, (let b = a.within in omega arith), sym (row_ok row_packet rows cs c.args.first c.loop-i.i _ h _ a.answer) ∙ c.loop-i.invariant.2)
-      | in-default w ↦
-          let h = row_none rows c.loop-i.i (sym c.row.ensures ∙ w.in-default.is) in
+      | in_default w ↦
+          let h = row_none rows c.loop-i.i (sym c.row.ensures ∙ w.in_default.is) in
           absurd (omega arith)
     ]
 

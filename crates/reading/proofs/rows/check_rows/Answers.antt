@@ -19,35 +19,35 @@ loop-table-init g c =
     let e = over_none summary_lt all in
     (omega arith, c.requires, ap (λ v. c.args.first + length v) e, ap (λ v. rows_at c.args.first (map row_packet v) (drop c.args.first cs)) e)
 
-pub returns-in-err-check-batch : goal.returns-in-err-check-batch
-returns-in-err-check-batch g c =
+pub returns-in_err-check_batch : goal.returns-in_err-check_batch
+returns-in_err-check_batch g c =
     let cs = g.C.Carrier.cells c.args.carrier.now in
     let all = all_rows c.args.orbits cs in
     let left = over summary_lt c.loop-table.above all in
     let at = c.loop-table.at in
-    let p = err_from_is_err_and c.from-residual.result c.from-residual.ensures.1 in
-    let q = c.in-err-check-batch.ensures.answer ∙ ap (λ v. rows_at at (map row_packet v) (drop at cs)) c.lowest-rows.ensures.rows in
+    let p = err_from_is_err_and c.from_residual.result c.from_residual.ensures.1 in
+    let q = c.in_err-check_batch.ensures.answer ∙ ap (λ v. rows_at at (map row_packet v) (drop at cs)) c.lowest_rows.ensures.rows in
     record {
       answer = p.1 ∙ ap Err p.2 ∙ ap (seen (λ _. length (map row_packet all))) (sym (batch-err left cs at _ q) ∙ c.loop-table.invariant.3);
-      within = MatchResult-from_err c.from-residual.result _ _ c.from-residual.ensures.0 (λ _. tt);
+      within = MatchResult-from_err c.from_residual.result _ _ c.from_residual.ensures.0 (λ _. tt);
     }
 
-pub returns-then-is-none : goal.returns-then-is-none
-returns-then-is-none g c =
+pub returns-then-is_none : goal.returns-then-is_none
+returns-then-is_none g c =
     let cs = g.C.Carrier.cells c.args.carrier.now in
     let xs = orbits_in (take c.args.orbits (drop 5 cs)) in
     let all = all_rows c.args.orbits cs in
     let left = over summary_lt c.loop-table.above all in
     let at = c.loop-table.at in
     let n = c.count-at.result in
-    let rows = rows_in c.lowest-rows.new.table in
-    let t : rows ≡ take 64 left = c.lowest-rows.ensures.rows in
+    let rows = rows_in c.lowest_rows.new.table in
+    let t : rows ≡ take 64 left = c.lowest_rows.ensures.rows in
     let i = c.loop-table.invariant in
-    let a = c.in-ok-check-batch.ensures in
+    let a = c.in_ok-check_batch.ensures in
     let q : Ok tt ≡ rows_at at (map row_packet (take 64 left)) (drop at cs) = a.answer ∙ ap (λ v. rows_at at (map row_packet v) (drop at cs)) t in
     let room : at + length rows ≤ length cs = a.within in
     let m : n ≡ length rows = c.count-at.ensures in
-    let l = last xs c.loop-table.above c.highest-above.result rows n t m c.highest-above.ensures c.if-is-none.ensures in
+    let l = last xs c.loop-table.above c.highest-above.result rows n t m c.highest-above.ensures c.if-is_none.ensures in
     let w : length rows ≡ length left = ap length (t ∙ l) in
     let r : length (map row_packet all) ≡ length all = length_rows row_packet all in
     let d : at + n - c.args.first ≡ length (map row_packet all) = omega (arith, i.0, i.2) in
@@ -66,14 +66,14 @@ loop-table-smaller g c =
     let left = over summary_lt c.loop-table.above all in
     let at = c.loop-table.at in
     let n = c.count-at.result in
-    let rows = rows_in c.lowest-rows.new.table in
-    let t : rows ≡ take 64 left = c.lowest-rows.ensures.rows in
+    let rows = rows_in c.lowest_rows.new.table in
+    let t : rows ≡ take 64 left = c.lowest_rows.ensures.rows in
     let i = c.loop-table.invariant in
-    let a = c.in-ok-check-batch.ensures in
+    let a = c.in_ok-check_batch.ensures in
     let q : Ok tt ≡ rows_at at (map row_packet (take 64 left)) (drop at cs) = a.answer ∙ ap (λ v. rows_at at (map row_packet v) (drop at cs)) t in
     let room : at + length rows ≤ length cs = a.within in
     let m : n ≡ length rows = c.count-at.ensures in
-    let o = more xs c.loop-table.above c.highest-above.result rows n t m c.highest-above.ensures c.if-is-none.ensures in
+    let o = more xs c.loop-table.above c.highest-above.result rows n t m c.highest-above.ensures c.if-is_none.ensures in
     let e : length (over summary_lt c.highest-above.result all) ≡ length (drop 64 left) = ap length o.left in
     let d = length-drop 64 left in
     let s = o.some in
@@ -87,14 +87,14 @@ loop-table-preserved g c =
     let left = over summary_lt c.loop-table.above all in
     let at = c.loop-table.at in
     let n = c.count-at.result in
-    let rows = rows_in c.lowest-rows.new.table in
-    let t : rows ≡ take 64 left = c.lowest-rows.ensures.rows in
+    let rows = rows_in c.lowest_rows.new.table in
+    let t : rows ≡ take 64 left = c.lowest_rows.ensures.rows in
     let i = c.loop-table.invariant in
-    let a = c.in-ok-check-batch.ensures in
+    let a = c.in_ok-check_batch.ensures in
     let q : Ok tt ≡ rows_at at (map row_packet (take 64 left)) (drop at cs) = a.answer ∙ ap (λ v. rows_at at (map row_packet v) (drop at cs)) t in
     let room : at + length rows ≤ length cs = a.within in
     let m : n ≡ length rows = c.count-at.ensures in
-    let o = more xs c.loop-table.above c.highest-above.result rows n t m c.highest-above.ensures c.if-is-none.ensures in
+    let o = more xs c.loop-table.above c.highest-above.result rows n t m c.highest-above.ensures c.if-is_none.ensures in
     let e : length (over summary_lt c.highest-above.result all) ≡ length (drop 64 left) = ap length o.left in
     let d = length-drop 64 left in
     let s = o.some in
