@@ -13,9 +13,9 @@ abbrev pub told : FileFault → OdfFault
 told e = record { number = number e; layer = layer e; packet = packet e; item = item e; byte = byte e }
 
 -- the result of a call: 0 where it is accepted, else the number of its fault
-abbrev pub result : {A : Type 0} → Result A FileFault → ℕ
-result (Ok x) = 0
-result (Err e) = number e
+abbrev pub call_result : {A : Type 0} → Result A FileFault → ℕ
+call_result (Ok x) = 0
+call_result (Err e) = number e
 
 -- what the caller's record holds after it: where it is refused, what it held
 abbrev pub filled : {A N : Type 0} → (A → N) → N → Result A FileFault → N
@@ -29,7 +29,7 @@ faulted old (Err e) = told e
 
 -- the result, and the caller's record and fault before and after, are those of one answer, which has property P
 abbrev pub Leaves : {A N : Type 0} → (A → N) → (Result A FileFault → Type 0) → ℕ → N → N → OdfFault → OdfFault → Type 0
-Leaves {A} plain P r old new was now' = (a : Result A FileFault) × P a × (r ≡ result a) × (new ≡ filled plain old a) × (now' ≡ faulted was a)
+Leaves {A} plain P r old new was now' = (a : Result A FileFault) × P a × (r ≡ call_result a) × (new ≡ filled plain old a) × (now' ≡ faulted was a)
 
 -- cell k of a disk image
 abbrev pub disk_cell : List ℕ → ℕ → Option Cell

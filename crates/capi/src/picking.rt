@@ -1,9 +1,9 @@
 //! Picking one record of a disk image.
 ghost use Rattle.std.specs.Prelude.{◌≡◌};
 ghost use Rattle.odf.specs.Refusals.{number};
-ghost use Rattle.orbit.specs.Orbits.{orbit_kind, items_of as orbitItems};
-ghost use Rattle.station.specs.ClockWords.{clock_kind, items_of as clockItems};
-ghost use Rattle.station.specs.RampWords.{ramp_kind, items_of as rampItems};
+ghost use Rattle.orbit.specs.Orbits.{orbit_kind, items_of as orbit_items_of};
+ghost use Rattle.station.specs.ClockWords.{clock_kind, items_of as clock_items_of};
+ghost use Rattle.station.specs.RampWords.{ramp_kind, items_of as ramp_items_of};
 ghost use Rattle.capi.specs.Calls.{Leaves, Picked, disk_cell, told};
 ghost use Rattle.capi.specs.Records.{orbit_numbers, ramp_numbers, clock_numbers};
 
@@ -55,7 +55,7 @@ pub extern "C" fn odf_pick_orbit(
     found: &mut OdfOrbit,
     fault: &mut OdfFault,
 ) -> u32
-    ensures { Leaves (λ x. orbit_numbers (orbitItems x)) (Picked orbit_kind.packed orbit_kind.bad k (disk_cell image.now k)) result found.old found.new fault.old fault.new }
+    ensures { Leaves (λ x. orbit_numbers (orbit_items_of x)) (Picked orbit_kind.packed orbit_kind.bad k (disk_cell image.now k)) result found.old found.new fault.old fault.new }
 {
     pick_plain::<Orbit>(image, k, found, fault)
 }
@@ -68,7 +68,7 @@ pub extern "C" fn odf_pick_ramp(
     found: &mut OdfRamp,
     fault: &mut OdfFault,
 ) -> u32
-    ensures { Leaves (λ x. ramp_numbers (rampItems x)) (Picked ramp_kind.packed ramp_kind.bad k (disk_cell image.now k)) result found.old found.new fault.old fault.new }
+    ensures { Leaves (λ x. ramp_numbers (ramp_items_of x)) (Picked ramp_kind.packed ramp_kind.bad k (disk_cell image.now k)) result found.old found.new fault.old fault.new }
 {
     pick_plain::<Ramp>(image, k, found, fault)
 }
@@ -81,7 +81,7 @@ pub extern "C" fn odf_pick_clock(
     found: &mut OdfClock,
     fault: &mut OdfFault,
 ) -> u32
-    ensures { Leaves (λ x. clock_numbers (clockItems x)) (Picked clock_kind.packed clock_kind.bad k (disk_cell image.now k)) result found.old found.new fault.old fault.new }
+    ensures { Leaves (λ x. clock_numbers (clock_items_of x)) (Picked clock_kind.packed clock_kind.bad k (disk_cell image.now k)) result found.old found.new fault.old fault.new }
 {
     pick_plain::<Clock>(image, k, found, fault)
 }

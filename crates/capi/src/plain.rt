@@ -1,8 +1,8 @@
 //! The items of a record as plain numbers.
 ghost use Rattle.std.specs.Prelude.{◌≡◌};
-ghost use Rattle.orbit.specs.Orbits.{items_of as orbitItems};
-ghost use Rattle.station.specs.ClockWords.{items_of as clockItems};
-ghost use Rattle.station.specs.RampWords.{items_of as rampItems};
+ghost use Rattle.orbit.specs.Orbits.{items_of as orbit_items_of};
+ghost use Rattle.station.specs.ClockWords.{items_of as clock_items_of};
+ghost use Rattle.station.specs.RampWords.{items_of as ramp_items_of};
 ghost use Rattle.capi.specs.Records.{Small, orbit_numbers, orbit_naturals, ramp_numbers, ramp_naturals, clock_numbers, clock_naturals};
 
 use crate::numbers::{OdfClock, OdfOrbit, OdfRamp};
@@ -28,7 +28,7 @@ pub trait Plain: RecordKind {
 
 /// The items of an orbit record; no unsigned one is large.
 fn orbit_items(from: &Orbit) -> OrbitItems
-    ensures same { result ≡ orbitItems from.now }
+    ensures same { result ≡ orbit_items_of from.now }
     ensures small { Small (orbit_naturals result) }
 {
     from.items()
@@ -36,7 +36,7 @@ fn orbit_items(from: &Orbit) -> OrbitItems
 
 /// The items of a ramp; no unsigned one is large.
 fn ramp_items(from: &Ramp) -> RampItems
-    ensures same { result ≡ rampItems from.now }
+    ensures same { result ≡ ramp_items_of from.now }
     ensures small { Small (ramp_naturals result) }
 {
     from.items()
@@ -44,7 +44,7 @@ fn ramp_items(from: &Ramp) -> RampItems
 
 /// The items of a clock offset; no unsigned one is large.
 fn clock_items(from: &Clock) -> ClockItems
-    ensures same { result ≡ clockItems from.now }
+    ensures same { result ≡ clock_items_of from.now }
     ensures small { Small (clock_naturals result) }
 {
     from.items()
@@ -53,7 +53,7 @@ fn clock_items(from: &Clock) -> ClockItems
 impl Plain for Orbit {
     type Numbers = OdfOrbit;
 
-    ghost plain = { λ x. orbit_numbers (orbitItems x) };
+    ghost plain = { λ x. orbit_numbers (orbit_items_of x) };
 
     fn numbers(&self) -> OdfOrbit {
         let i = orbit_items(self);
@@ -87,7 +87,7 @@ impl Plain for Orbit {
 impl Plain for Ramp {
     type Numbers = OdfRamp;
 
-    ghost plain = { λ x. ramp_numbers (rampItems x) };
+    ghost plain = { λ x. ramp_numbers (ramp_items_of x) };
 
     fn numbers(&self) -> OdfRamp {
         let i = ramp_items(self);
@@ -109,7 +109,7 @@ impl Plain for Ramp {
 impl Plain for Clock {
     type Numbers = OdfClock;
 
-    ghost plain = { λ x. clock_numbers (clockItems x) };
+    ghost plain = { λ x. clock_numbers (clock_items_of x) };
 
     fn numbers(&self) -> OdfClock {
         let i = clock_items(self);

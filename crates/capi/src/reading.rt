@@ -2,7 +2,7 @@
 ghost use Rattle.std.specs.Prelude.{◌≡◌};
 ghost use Rattle.makes.specs.Shapes.{cells_of, disk};
 ghost use Rattle.reading.specs.Files.{answer};
-ghost use Rattle.capi.specs.Calls.{result, filled, faulted};
+ghost use Rattle.capi.specs.Calls.{call_result, filled, faulted};
 ghost use Rattle.capi.specs.Reports.{row_numbers, report_numbers};
 
 use crate::numbers::{OdfFault, OdfReport};
@@ -14,7 +14,7 @@ use reading::report::Report;
 
 /// Whether there is a summary, as 1 or 0, and its number of rows, 0 where there is none.
 fn row_numbers(rows: Option<usize>) -> (u64, u64)
-    ensures* { λ r. ⌜ r ≡ row_numbers rows ⌝ }
+    ensures { result ≡ row_numbers rows }
 {
     match rows {
         Some(count) => (1, count as u64),
@@ -24,7 +24,7 @@ fn row_numbers(rows: Option<usize>) -> (u64, u64)
 
 /// A report as plain numbers.
 fn plain_report(report: &Report) -> OdfReport
-    ensures* { λ r. ⌜ r ≡ report_numbers report.now ⌝ }
+    ensures { result ≡ report_numbers report.now }
 {
     let (summary, rows) = row_numbers(report.rows);
     OdfReport {
@@ -42,9 +42,9 @@ fn plain_report(report: &Report) -> OdfReport
 /// which `fault` tells.
 #[unsafe(no_mangle)]
 pub extern "C" fn odf_read(image: &[u8], report: &mut OdfReport, fault: &mut OdfFault) -> u32
-    ensures* result { λ r. ⌜ r ≡ result (answer (cells_of disk image.now)) ⌝ }
-    ensures* report { λ _. ⌜ report.new ≡ filled report_numbers report.old (answer (cells_of disk image.now)) ⌝ }
-    ensures* fault { λ _. ⌜ fault.new ≡ faulted fault.old (answer (cells_of disk image.now)) ⌝ }
+    ensures result { result ≡ call_result (answer (cells_of disk image.now)) }
+    ensures report { report.new ≡ filled report_numbers report.old (answer (cells_of disk image.now)) }
+    ensures fault { fault.new ≡ faulted fault.old (answer (cells_of disk image.now)) }
 {
     match read(&Image::<Disk>::new(image)) {
         Ok(found) => {

@@ -15,6 +15,7 @@ use makes::image::Image;
 use makes::layout::{Block1200, Block4800, Disk};
 use makes::make::Make;
 use std::alloc::Global;
+use std::process::ExitCode;
 use std::{env, fs};
 
 /// What a conversion gives: the new memory, and how many packets were copied.
@@ -75,13 +76,13 @@ fn run(rt: &HostRuntime) -> Result<(), Problem> {
     Ok(())
 }
 
-fn main(rt: HostRuntime) -> Result<(), Problem> {
-    let result = run(&rt);
-    if let Err(problem) = &result {
-        let _ = match problem {
-            Problem::Refused(_) => println!(rt; "odfcopy {problem}"),
-            _ => eprintln!(rt; "odfcopy: {problem}"),
-        };
-    }
-    result
+fn main(rt: HostRuntime) -> ExitCode {
+    let Err(problem) = run(&rt) else {
+        return ExitCode::SUCCESS;
+    };
+    let _ = match problem {
+        Problem::Refused(_) => println!(rt; "odfcopy {problem}"),
+        _ => eprintln!(rt; "odfcopy: {problem}"),
+    };
+    ExitCode::FAILURE
 }

@@ -16,6 +16,7 @@ use station::clock::Clock;
 use station::ramp::Ramp;
 use std::env;
 use std::io::Read;
+use std::process::ExitCode;
 
 /// A kind of record, as the command line names it.
 #[derive(Clone, Copy)]
@@ -92,13 +93,13 @@ fn run(rt: &HostRuntime) -> Result<(), Problem> {
     show_in(rt, make, bytes.as_slice(), kind, k)
 }
 
-fn main(rt: HostRuntime) -> Result<(), Problem> {
-    let result = run(&rt);
-    if let Err(problem) = &result {
-        let _ = match problem {
-            Problem::Refused(_) => println!(rt; "odfpick {problem}"),
-            _ => eprintln!(rt; "odfpick: {problem}"),
-        };
-    }
-    result
+fn main(rt: HostRuntime) -> ExitCode {
+    let Err(problem) = run(&rt) else {
+        return ExitCode::SUCCESS;
+    };
+    let _ = match problem {
+        Problem::Refused(_) => println!(rt; "odfpick {problem}"),
+        _ => eprintln!(rt; "odfpick: {problem}"),
+    };
+    ExitCode::FAILURE
 }
