@@ -4,4 +4,4 @@
 pub mod numbers;
 pub mod picking;
 pub mod plain;
-pub mod reading;
+pub mod whole;

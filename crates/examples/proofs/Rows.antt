@@ -1,6 +1,6 @@
 -- The whole table is computed once, by one test.
 use Rattle.std.proofs.Common.{◌≡◌, ℕ, Bool, true, false, ◌&&◌, eqb, List, [], ◌∷◌, ℤ, pos, negsuc, ap, arith}
-use Rattle.std.specs.List.{AllByRecursion as All}
+use Rattle.std.specs.List.{AllByRecursion}
 use Rattle.std.proofs.lemmas.Bool.{eqb-true, and_parts, false≢true}
 
 unfoldable pub same : ℤ → ℤ → Bool
@@ -20,7 +20,7 @@ unfoldable pub test : List (ℤ × ℤ) → Bool
 test [] = true
 test (e ∷ es) = same e.0 e.1 && test es
 
-pub tested : (es : List (ℤ × ℤ)) → test es ≡ true → All (λ e. e.0 ≡ e.1) es
+pub tested : (es : List (ℤ × ℤ)) → test es ≡ true → AllByRecursion (λ e. e.0 ≡ e.1) es
 unfolding test
 tested [] h = tt
 tested (e ∷ es) h = let p = and_parts (same e.0 e.1) (test es) h in (same_true e.0 e.1 p.0, tested es p.1)

@@ -1,6 +1,6 @@
 -- Worked examples: what the definitions give, beside what the example says.
 use Rattle.std.specs.Prelude.{◌≡◌, ℕ, cond, List, [], ◌∷◌, ℤ, pos, negsuc, slice_index}
-use Rattle.std.specs.List.{AllByRecursion as All}
+use Rattle.std.specs.List.{AllByRecursion}
 use Rattle.packet.specs.Packets.{bytes_of, header_like}
 use Rattle.makes.specs.Shapes.{disk, block1200, block4800, count_for, place_of}
 use Rattle.orbit.specs.OrbitRules.{bad_orbit}
@@ -108,4 +108,4 @@ examples =
 
 -- each example holds
 abbrev pub Hold : Type 0
-Hold = All (λ e. e.0 ≡ e.1) examples
+Hold = AllByRecursion (λ e. e.0 ≡ e.1) examples

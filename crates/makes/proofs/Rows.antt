@@ -1,7 +1,7 @@
 -- The cells of a memory: where they lie, that they do not overlap, and what writing one changes.
 use Rattle.std.proofs.Common.{◌≡◌, ℕ, zero, suc, ◌+◌, ◌-◌, ◌*◌, ◌/◌, ◌%◌, ◌<◌, ◌≤◌, min, Bool, true, false, cond, ◌≢◌, ◌⊎◌, List, [], ◌∷◌, ◌++◌, length, get_or, take, drop, set, Some, None, Ok, Err, Option, Result, sym, refl, ap, ◌∙◌, subst, inl, inr, mul-le-mul_right, mod-lt, mul_comm, div-lt_iff_lt-mul, add-mul, mul-le-mul_left, one-mul, div-mul-le_self, arith, rules}
 use native.Mathlib.Nat.{div-add-mod}
-use Rattle.std.specs.List.{AllByRecursion as All, between}
+use Rattle.std.specs.List.{AllByRecursion, between}
 use Rattle.std.proofs.ByRecursion.{All-get_or}
 use Rattle.std.proofs.lemmas.List.{at_drop_more, at_drop_all, ext_get_or, get_or-take, get_or-drop, get_or_past, length-take, length-drop, places}
 use Rattle.std.proofs.lemmas.Bool.{eq-eqb, ne_eqb, cond-true, cond-false, cases_lt, cases_order}
@@ -154,7 +154,7 @@ pub record Beside (m n : List ℕ) (place : ℕ) : Type 0 where
   pub below : (j : ℕ) → j < place → get_or n j 0 ≡ get_or m j 0
   pub above : (j : ℕ) → place + 36 ≤ j → get_or n j 0 ≡ get_or m j 0
 
-pub wrong_beside : (sh : Shape) (i place : ℕ) (m n : List ℕ) → Beside m n place → (fs : List (ℕ × ℕ)) → All (λ f. (start_of sh i + f.0 < place) ⊎ (place + 36 ≤ start_of sh i + f.0)) fs → wrong_in fs (start_of sh i) n ≡ wrong_in fs (start_of sh i) m
+pub wrong_beside : (sh : Shape) (i place : ℕ) (m n : List ℕ) → Beside m n place → (fs : List (ℕ × ℕ)) → AllByRecursion (λ f. (start_of sh i + f.0 < place) ⊎ (place + 36 ≤ start_of sh i + f.0)) fs → wrong_in fs (start_of sh i) n ≡ wrong_in fs (start_of sh i) m
 wrong_beside sh i place m n b [] a = refl
 wrong_beside sh i place m n b (f ∷ fs) a =
     let e : get_or n (start_of sh i + f.0) 0 ≡ get_or m (start_of sh i + f.0) 0 = elim a.0 [ inl l ↦ b.below _ l | inr l ↦ b.above _ l ] in
@@ -176,7 +176,7 @@ pub held_clean : (w : Option ℕ) (p q : List ℕ) → cell_from w p ≡ holds q
 held_clean None p q h = refl
 held_clean (Some j) p q h = let z : ◌≡◌ {A = ℕ} 0 1 = cc in absurd (omega arith)
 
-pub all_map_to : {X : Type 0} (P Q : X → Type 0) → ((x : X) → P x → Q x) → (xs : List X) → All P xs → All Q xs
+pub all_map_to : {X : Type 0} (P Q : X → Type 0) → ((x : X) → P x → Q x) → (xs : List X) → AllByRecursion P xs → AllByRecursion Q xs
 all_map_to P Q f [] a = tt
 all_map_to P Q f (x ∷ xs) a = (f x a.0, all_map_to P Q f xs a.1)
 

@@ -1,6 +1,6 @@
 -- How the makes lay packets out in blocks, and the cells that a memory has under each.
 use Rattle.std.specs.Prelude.{◌≡◌, ℕ, zero, suc, ◌+◌, ◌*◌, ◌/◌, ◌%◌, ◌<◌, ◌≤◌, min, Bool, true, false, cond, ◌&&◌, ◌||◌, ◌≢◌, ◌⊎◌, List, [], ◌∷◌, ◌++◌, length, take, drop, Some, None, Option, ◌==◌, nat_le, nat_lt, slice_index, slice_index_or}
-use Rattle.std.specs.List.{AllByRecursion as All}
+use Rattle.std.specs.List.{AllByRecursion}
 use Rattle.carrier.specs.Cells.{Cell, holds, damaged, Kept, named, outside, cell_at}
 
 -- a make: bytes in a block, packets in it, where the first begins, and the bytes that are fixed, each by its place in the
@@ -39,7 +39,7 @@ pub record Sound (sh : Shape) : Type 0 where
   pub some : 0 < sh.packets
   pub room : sh.first + 36 * sh.packets ≤ sh.block
   pub short : sh.block ≤ 65536
-  pub apart : All (λ f. (f.0 < sh.block) × Free sh f.0) sh.fixed
+  pub apart : AllByRecursion (λ f. (f.0 < sh.block) × Free sh f.0) sh.fixed
   pub rising : Rising 0 sh.fixed
 
 -- how many cells a memory of n bytes has: those of its whole blocks, at most a million

@@ -2,7 +2,7 @@
 use Rattle.std.proofs.Common.{◌≡◌, ℕ, zero, suc, ◌+◌, ◌<◌, ◌≤◌, Bool, true, false, cond, ◌&&◌, eqb, ltb, ◌⊎◌, List, [], ◌∷◌, length, get_or, drop, Some, None, Option, sym, refl, ap, ◌∙◌, inl, inr, le_of_suc-le-suc, not-suc-le-zero, arith, drop-cons, rules}
 use Rattle.std.proofs.lemmas.Bool.{and_parts, eqb-true, eq-eqb, ne_eqb, cases_eq, cases_lt, cond-false}
 use Rattle.std.proofs.lemmas.Bool.Decides.{nat_tests}
-use Rattle.std.specs.List.{AllByRecursion as All}
+use Rattle.std.specs.List.{AllByRecursion}
 use Rattle.orbit.specs.declared.types.Class.{Class}
 use Rattle.orbit.specs.declared.types.Class.TheVariants.{Vlbi, Doppler, Range, Angle}
 use Rattle.orbit.specs.Types.{look, class_at}
@@ -48,7 +48,7 @@ low : (k : ℕ) → k < 64 → look k types ≡ class_at k
 unfolding below tag class_at
 low k h = same_tag (look k types) (class_at k) (eqb-true _ _ (at (λ n. eqb (tag (look n types)) (tag (class_at n))) 64 refl k h))
 
-beyond : (es : List (ℕ × Class)) (k : ℕ) → All (λ e. e.0 < 64) es → 64 ≤ k → look k es ≡ None
+beyond : (es : List (ℕ × Class)) (k : ℕ) → AllByRecursion (λ e. e.0 < 64) es → 64 ≤ k → look k es ≡ None
 beyond [] k a h = refl
 beyond (e ∷ es) k a h = cond-false _ _ _ (ne_eqb e.0 k (λ q. let l = a.0 in omega arith)) ∙ beyond es k a.1 h
 
