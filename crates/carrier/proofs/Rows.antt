@@ -1,5 +1,5 @@
 -- Facts about rows of cells.
-use Rattle.std.proofs.Common.{◌≡◌, ℕ, zero, suc, ◌+◌, ◌<◌, ◌≤◌, List, [], ◌∷◌, ◌++◌, length, get_or, drop, set, replicate, Some, None, Ok, Err, Option, sym, refl, ap, ◌∙◌, subst, add-one, arith}
+use Rattle.std.proofs.Common.{◌≡◌, ℕ, zero, suc, ◌<◌, List, [], ◌∷◌, ◌++◌, length, get_or, drop, set, replicate, Some, None, Ok, Err, Option, refl, ap, subst, arith}
 use Rattle.carrier.specs.Cells.{Cell, holds, damaged, Proper, Whole, cell_at, reply, put_at, stored, first_damage}
 use Rattle.carrier.specs.declared.fault.CarrierFault.{CarrierFault}
 

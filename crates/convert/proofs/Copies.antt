@@ -1,5 +1,5 @@
 -- A row of cells whose first k cells are copied from another.
-use Rattle.std.proofs.Common.{◌≡◌, ℕ, ◌+◌, ◌<◌, ◌≤◌, List, [], ◌∷◌, ◌++◌, length, get_or, take, drop, set, Some, None, sym, ap, ◌∙◌, append_assoc, arith}
+use Rattle.std.proofs.Common.{◌≡◌, ℕ, ◌+◌, ◌<◌, ◌≤◌, List, [], ◌∷◌, ◌++◌, length, get_or, take, drop, set, Some, sym, ap, ◌∙◌, append_assoc, arith}
 use Rattle.std.proofs.lemmas.List.{length-take-le, set_at, drop_more, take_more}
 use Rattle.carrier.specs.Cells.{Cell, cell_at}
 use Rattle.carrier.proofs.Rows.{at_append, at_drop, at_get_or}

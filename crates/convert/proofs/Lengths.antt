@@ -1,6 +1,6 @@
 -- How many blocks hold a number of cells.
-use Rattle.std.proofs.Common.{◌≡◌, ℕ, ◌+◌, ◌-◌, ◌*◌, ◌/◌, ◌<◌, ◌≤◌, min, sym, ap, ◌∙◌, mul-le-mul_right, div-lt_iff_lt-mul, add-mul, one-mul, div-mul-le_self, mul-div_cancel, arith}
-use Rattle.makes.specs.Shapes.{Shape, Sound, count_for}
+use Rattle.std.proofs.Common.{◌≡◌, ℕ, ◌+◌, ◌-◌, ◌*◌, ◌/◌, ◌<◌, ◌≤◌, mul-le-mul_right, div-lt_iff_lt-mul, add-mul, one-mul, div-mul-le_self, mul-div_cancel, arith}
+use Rattle.makes.specs.Shapes.{Shape, Sound}
 use Rattle.convert.specs.Conversion.{Smallest}
 
 -- the quotient that is rounded up is enough, and no less is

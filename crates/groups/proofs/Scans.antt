@@ -15,7 +15,6 @@ use Rattle.label.specs.Headers.{header_words, header_of, header_packet}
 use Rattle.label.specs.Identifiers.{identifier}
 use Rattle.label.specs.declared.label.Label.{Label}
 use Rattle.label.specs.Labels as labels
-use Rattle.label.proofs.HeaderLaws as header-laws
 use Rattle.label.specs.LabelLaws as label-laws
 use Rattle.summary.specs.declared.summary_key.SummaryKey.{SummaryKey}
 use Rattle.summary.specs.declared.table.Row.{Row}

@@ -1,5 +1,5 @@
 -- Items that fit a label: they break no rule, and their texts have 64 bits.
-use Rattle.std.specs.Prelude.{◌≡◌, ℕ, ◌+◌, ◌/◌, ◌^◌, ◌<◌}
+use Rattle.std.specs.Prelude.{◌≡◌, ◌^◌, ◌<◌}
 use Rattle.std.proofs.Common.{arith}
 use Rattle.label.specs.LabelRules.{bad_label, unfit}
 use Rattle.label.specs.declared.label.LabelItems.{LabelItems}

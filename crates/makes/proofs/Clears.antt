@@ -1,14 +1,12 @@
 -- Clearing: what setting fixed bytes and filling a cell leave.
-use Rattle.std.proofs.Common.{◌≡◌, ℕ, zero, suc, ◌+◌, ◌-◌, ◌*◌, ◌/◌, ◌%◌, ◌<◌, ◌≤◌, min, cond, ◌≢◌, ◌⊎◌, List, [], ◌∷◌, ◌++◌, length, get_or, take, drop, set, replicate, Some, None, Option, sym, refl, ap, ◌∙◌, subst, inl, inr, arith, below_more}
-use borrow.Rule.Slice.PartMut.{put_mid}
-use Rattle.std.specs.List.{AllByRecursion}
+use Rattle.std.proofs.Common.{◌≡◌, ℕ, zero, suc, ◌+◌, ◌*◌, ◌/◌, ◌<◌, ◌≤◌, ◌≢◌, List, [], ◌∷◌, length, get_or, take, drop, set, replicate, Some, None, Option, sym, refl, ap, ◌∙◌, inl, inr, arith, below_more}
 use Rattle.std.proofs.ByRecursion.{All-get_or}
 use Rattle.std.proofs.lemmas.List.{get_or-set_same, get_or-set_other}
 use Rattle.std.proofs.lemmas.Bool.{eq-eqb, cond-true, cases_order, cases_eq}
 use Rattle.packet.specs.Packets.{filler}
-use Rattle.carrier.specs.Cells.{Cell, holds, damaged}
+use Rattle.carrier.specs.Cells.{holds}
 use Rattle.makes.specs.Shapes.{Shape, Sound, Free, Rising, NotFixed, Apart, wrong_in, tab, start_of, place_of, cell_from, cell_of, count_of, cells_of}
-use Rattle.makes.proofs.Rows.{Beside, block-before, slot_fits, fixed_apart, wrong_kept, packet-kept, part_same, held_clean, beside_put_mid, part_put_mid, tab-same}
+use Rattle.makes.proofs.Rows.{Beside, block-before, fixed_apart, wrong_kept, packet-kept, part_same, held_clean}
 
 rising_low : (low : ℕ) (xs : List (ℕ × ℕ)) (i : ℕ) → Rising low xs → i < length xs → low ≤ (get_or xs i (0, 0)).0
 rising_low low [] i r h = absurd (omega arith)

@@ -1,14 +1,13 @@
 -- The cells of a memory: where they lie, that they do not overlap, and what writing one changes.
-use Rattle.std.proofs.Common.{◌≡◌, ℕ, zero, suc, ◌+◌, ◌-◌, ◌*◌, ◌/◌, ◌%◌, ◌<◌, ◌≤◌, min, Bool, true, false, cond, ◌≢◌, ◌⊎◌, List, [], ◌∷◌, ◌++◌, length, get_or, take, drop, set, Some, None, Ok, Err, Option, Result, sym, refl, ap, ◌∙◌, subst, inl, inr, mul-le-mul_right, mod-lt, mul_comm, div-lt_iff_lt-mul, add-mul, mul-le-mul_left, one-mul, div-mul-le_self, arith, rules}
+use Rattle.std.proofs.Common.{◌≡◌, ℕ, zero, suc, ◌+◌, ◌-◌, ◌*◌, ◌/◌, ◌%◌, ◌<◌, ◌≤◌, ◌≢◌, ◌⊎◌, List, [], ◌∷◌, length, get_or, take, drop, set, Some, None, Option, sym, refl, ap, ◌∙◌, subst, inl, inr, mul-le-mul_right, mod-lt, div-lt_iff_lt-mul, add-mul, mul-le-mul_left, one-mul, div-mul-le_self, arith, rules}
 use native.Mathlib.Nat.{div-add-mod}
 use Rattle.std.specs.List.{AllByRecursion, between}
 use Rattle.std.proofs.ByRecursion.{All-get_or}
 use Rattle.std.proofs.lemmas.List.{at_drop_more, at_drop_all, ext_get_or, get_or-take, get_or-drop, get_or_past, length-take, length-drop, places}
 use Rattle.std.proofs.lemmas.Bool.{eq-eqb, ne_eqb, cond-true, cond-false, cases_lt, cases_order}
 use borrow.Rule.Slice.PartMut.{put_mid}
-use Rattle.std.proofs.lemmas.Slice.{overwrites, between-put_mid}
-use Rattle.carrier.specs.declared.fault.CarrierFault.{CarrierFault}
-use Rattle.carrier.specs.Cells.{Cell, holds, damaged, Proper, Whole, cell_at, reply, put_at, stored}
+use Rattle.std.proofs.lemmas.Slice.{between-put_mid}
+use Rattle.carrier.specs.Cells.{Cell, holds, Proper, Whole, cell_at, put_at, stored}
 use Rattle.makes.specs.Shapes.{Shape, Sound, Free, Located, wrong_in, tab, start_of, place_of, cell_from, cell_of, count_for, count_of, cells_of}
 
 pub length-tab : {A : Type 0} (n : ℕ) (f : ℕ → A) → length (tab n f) ≡ n

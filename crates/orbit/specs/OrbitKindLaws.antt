@@ -13,7 +13,7 @@ use Rattle.orbit.specs.OrbitWords.{orbit_words, orbit_of, W2, W5, W67, W89, item
 use Rattle.orbit.specs.Orbits.{items_of, made, packed, unpacked}
 use Rattle.orbit.specs.declared.items.OrbitItems.{OrbitItems}
 use Rattle.orbit.specs.declared.orbit.Orbit.{Orbit}
-use Rattle.orbit.specs.OrbitLaws.{Wide, wide, items_back, words_back}
+use Rattle.orbit.specs.OrbitLaws.{wide, items_back, words_back}
 
 abbrev forming : Forming OrbitItems Orbit
 forming = record { bad = bad_orbit; made = made; items = items_of; kept = λ x. x.lawful; whole = λ x. refl; exact = λ i e. refl }

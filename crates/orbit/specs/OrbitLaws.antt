@@ -1,23 +1,21 @@
 -- The nine words of an orbit record and its items are one another's inverse.
-use Rattle.std.specs.Prelude.{◌≡◌, ℕ, ◌+◌, ◌*◌, ◌/◌, ◌%◌, ◌^◌, ◌<◌, ◌≤◌, Bool, true, false, not, ◌&&◌, ◌||◌, List, [], ◌∷◌, length, ℤ, is_some, ◌==◌, nat_le, slice_index, slice_index_or, refl}
-use Rattle.std.proofs.Common.{◌∙◌, ap, sym, div-one, arith, lit<, lit≤, to_z, of_z}
-use mathlib.Core.HLevel.{is_prop→PathP}
-use Rattle.std.proofs.Math.Nat.{ℕ_set}
+use Rattle.std.specs.Prelude.{◌≡◌, ℕ, ◌+◌, ◌*◌, ◌/◌, ◌%◌, ◌^◌, ◌<◌, ◌≤◌, Bool, true, not, ◌||◌, List, [], ◌∷◌, length, ℤ, is_some, ◌==◌, nat_le, slice_index, slice_index_or}
+use Rattle.std.proofs.Common.{◌∙◌, ap, sym, div-one, arith, lit<, to_z}
 use Rattle.std.specs.Int.Signed.{mag}
 use Rattle.std.specs.Int.{w32}
 use Rattle.std.proofs.lemmas.Int.{of_z-to_z, ints}
 use Rattle.std.proofs.lemmas.Bool.{and_parts, leb-true, eqb-true}
 use Rattle.std.proofs.lemmas.Bool.Decides.{nat_tests}
-use Rattle.packet.specs.Fields.{join, split, Fill, total}
+use Rattle.packet.specs.Fields.{join, split, Fill}
 use Rattle.orbit.specs.Types.{class_at}
-use Rattle.record.specs.Rules.{paired, signed32}
-use Rattle.orbit.specs.OrbitRules.{held, orbit_rules, bad_orbit, auxiliary_rule, whole_rule, part_rule}
+use Rattle.record.specs.Rules.{signed32}
+use Rattle.orbit.specs.OrbitRules.{held, orbit_rules, bad_orbit, auxiliary_rule}
 use Rattle.orbit.specs.OrbitWords.{of20, to20, W2, W5, W67, W89, items2, items5, items67, items89, orbit_words, orbit_of, orbit_from}
 use Rattle.orbit.specs.declared.items.OrbitItems.{OrbitItems}
 use Rattle.record.proofs.SignedLaws.{paired_signed, number_back}
 use Rattle.record.proofs.Words.{nine}
 use Rattle.record.proofs.Lowest.{kept}
-use Rattle.packet.proofs.FieldLaws.{join-split, split-join, join_below}
+use Rattle.packet.proofs.FieldLaws.{join-split, split-join}
 
 -- what the rules say of the widths
 pub record Wide (i : OrbitItems) : Type 0 where

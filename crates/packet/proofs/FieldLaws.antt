@@ -1,7 +1,7 @@
 -- One law for every list of widths: the fields of a number and the number of its fields.
-use Rattle.std.proofs.Common.{◌≡◌, ℕ, zero, suc, ◌+◌, ◌*◌, ◌/◌, ◌%◌, ◌^◌, ◌<◌, List, [], ◌∷◌, sym, refl, ap, ◌∙◌, add_assoc, mul_assoc, add-mul, arith}
+use Rattle.std.proofs.Common.{◌≡◌, ℕ, ◌+◌, ◌*◌, ◌/◌, ◌%◌, ◌^◌, ◌<◌, List, [], ◌∷◌, sym, refl, ap, ◌∙◌, add_assoc, mul_assoc, add-mul, arith}
 use native.Mathlib.Nat.{mod-one}
-use Rattle.std.proofs.lemmas.Nat.{mod-pow-add, shr_high, mod_low, pow-add, pow_pos, mul-add-lt, shl_below}
+use Rattle.std.proofs.lemmas.Nat.{mod-pow-add, shr_high, mod_low, pow-add, mul-add-lt}
 use Rattle.packet.specs.Fields.{total, join, split, Fill}
 
 pub join-split : (ws : List ℕ) (n : ℕ) → join ws (split ws n) ≡ n % 2 ^ total ws

@@ -1,8 +1,8 @@
 -- The rows of a summary, compared one batch after another.
-use Rattle.std.proofs.Common.{◌≡◌, ℕ, zero, suc, ◌+◌, ◌-◌, ◌<◌, ◌≤◌, Bool, true, false, cond, List, [], ◌∷◌, ◌++◌, map, length, take, drop, is_some, Some, None, Ok, Err, Option, Result, sym, refl, ap, ◌∙◌, inl, inr, add-zero, arith}
+use Rattle.std.proofs.Common.{◌≡◌, ℕ, zero, suc, ◌+◌, ◌<◌, ◌≤◌, true, false, List, [], ◌∷◌, ◌++◌, map, length, take, drop, is_some, Some, None, Ok, Err, Option, sym, refl, ap, ◌∙◌, inl, inr, add-zero, arith}
 use Rattle.std.specs.List.{slice_get}
 use Rattle.std.specs.Str.{bytes_eq}
-use Rattle.std.proofs.lemmas.List.{take-append-drop, map-append, drop-drop, length-take, length-drop}
+use Rattle.std.proofs.lemmas.List.{take-append-drop, map-append, drop-drop, length-take}
 use Rattle.std.proofs.lemmas.Bool.{cases_Bool}
 use Rattle.carrier.specs.Cells.{Cell, holds, damaged}
 use Rattle.summary.specs.declared.summary_key.SummaryKey.{SummaryKey}
@@ -15,7 +15,7 @@ use Rattle.summary.specs.RowWords.{row_packet}
 use Rattle.summary.specs.SummaryKeys.{summary_of, summary_lt}
 use Rattle.summary.specs.Found.{orbits_in}
 use Rattle.odf.specs.declared.fault.FileFault.{FileFault}
-use Rattle.reading.specs.Outcomes.{and_then, seen}
+use Rattle.reading.specs.Outcomes.{and_then}
 use Rattle.reading.specs.Reading.{rows_at}
 
 -- the rows of the summary of the n orbit records from packet 5 on

@@ -1,6 +1,6 @@
 -- A whole file: what is read is what was laid, for any rows of the summary.
-use Rattle.std.proofs.Common.{◌≡◌, ℕ, zero, suc, ◌+◌, ◌-◌, ◌^◌, ◌<◌, ◌≤◌, Bool, true, false, cond, List, [], ◌∷◌, ◌++◌, map, length, drop, replicate, ℤ, pos, negsuc, Some, None, Ok, Err, Result, sym, refl, ap, ◌∙◌, subst, arith, lit<}
-use Rattle.std.proofs.lemmas.List.{length-append, length-map, length-replicate, drop-drop}
+use Rattle.std.proofs.Common.{◌≡◌, ℕ, zero, suc, ◌+◌, ◌^◌, ◌<◌, ◌≤◌, Bool, false, cond, List, [], ◌∷◌, ◌++◌, map, length, drop, replicate, ℤ, pos, Some, Ok, Err, Result, sym, refl, ap, ◌∙◌, subst, arith, lit<}
+use Rattle.std.proofs.lemmas.List.{length-append, length-replicate, drop-drop}
 use Rattle.packet.specs.Packets.{bytes_of, header_like, filler}
 use Rattle.carrier.specs.Cells.{Cell, holds, damaged, Proper, Whole}
 use Rattle.record.specs.declared.fault.RecordFault.{RecordFault}
@@ -20,15 +20,14 @@ use Rattle.label.specs.Identifiers.{identifier, bad_identifier}
 use Rattle.label.specs.Headers.{header_packet}
 use Rattle.label.specs.LabelLaws as label-laws
 use Rattle.label.proofs.IdentifierLaws as identifier-laws
-use Rattle.odf.specs.declared.fault.FileFault.{FileFault}
 use Rattle.odf.specs.declared.fault.FileFault.TheVariants.{InRecord, Misplaced}
 use Rattle.reading.specs.declared.walk.Stage.TheVariants.{Orbits}
 use Rattle.reading.specs.Outcomes.{and_then, lifted, seen}
-use Rattle.reading.specs.Contents.{Contents, Lawful, Ordered, packed, timing, following, packets_with, filled}
-use Rattle.reading.specs.Reading.{packet_at, opened, none, group, onward, Rest, data_at, header_at, identified, opening, reads_by}
-use Rattle.reading.proofs.Steps.{never, then_ok, lifted_ok, seen_ok, if_not, packet_ok}
+use Rattle.reading.specs.Contents.{Contents, Lawful, packed, following, packets_with}
+use Rattle.reading.specs.Reading.{none, group, onward, Rest, data_at, header_at, identified, opening, reads_by}
+use Rattle.reading.proofs.Steps.{never, then_ok, lifted_ok, seen_ok, if_not}
 use Rattle.reading.proofs.Groups.{Laws, owned_is, owned_back, data_like}
-use Rattle.reading.proofs.Openings.{Keyed, Within, Grouped, opened_is, opened_back, group_is, group_back, drop-packed, label_key, identifier_key, orbit_key}
+use Rattle.reading.proofs.Openings.{Keyed, Grouped, opened_is, opened_back, group_is, group_back, drop-packed, label_key, identifier_key, orbit_key}
 use Rattle.reading.proofs.Turns.{zero_key, whole_drop, drop_one_more, holds-append}
 use Rattle.reading.proofs.Onward.{Behind, onward_is}
 use Rattle.reading.proofs.Laying.{none_within, length-packed, following-headed, following_some, onward_back}

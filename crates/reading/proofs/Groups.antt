@@ -1,5 +1,5 @@
 -- A group of records, read from its packets, and its packets, read back.
-use Rattle.std.proofs.Common.{◌≡◌, ℕ, zero, suc, ◌+◌, ◌*◌, ◌^◌, ◌<◌, ◌≤◌, Bool, true, false, cond, eqb, ltb, leb, List, [], ◌∷◌, ◌++◌, map, length, get_or, drop, Some, None, Ok, Err, Option, Result, sym, refl, ap, ◌∙◌, subst, inl, inr, arith}
+use Rattle.std.proofs.Common.{◌≡◌, ℕ, zero, suc, ◌+◌, ◌*◌, ◌^◌, ◌<◌, true, false, ltb, List, [], ◌∷◌, ◌++◌, map, length, get_or, drop, Some, None, Ok, Option, sym, refl, ap, ◌∙◌, subst, inl, inr, arith}
 use Rattle.std.proofs.lemmas.List.{get_or_past}
 use Rattle.std.proofs.lemmas.Bool.{cases_Bool, cases_lt, ltb-false, le-ltb}
 use Rattle.packet.specs.Packets.{words_of, bytes_of, header_like}
@@ -7,10 +7,8 @@ use Rattle.packet.proofs.PacketLaws.{words_at, words_back, bytes_back}
 use Rattle.carrier.specs.Cells.{Cell, holds, damaged, Proper, Whole}
 use Rattle.record.specs.Kinds.{Kind, judged, owned}
 use Rattle.record.proofs.Data.{no_header}
-use Rattle.record.specs.declared.fault.RecordFault.{RecordFault}
-use Rattle.odf.specs.declared.fault.FileFault.{FileFault}
 use Rattle.odf.specs.declared.fault.FileFault.TheVariants.{InRecord, OutOfOrder}
-use Rattle.reading.specs.Outcomes.{and_then, lifted}
+use Rattle.reading.specs.Outcomes.{lifted}
 use Rattle.reading.specs.Contents.{Ordered, packed}
 use Rattle.reading.specs.Reading.{records, joined}
 use Rattle.reading.proofs.Steps.{never, then_ok, lifted_ok, joined_ok, if_not}

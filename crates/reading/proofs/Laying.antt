@@ -1,8 +1,8 @@
 -- All groups behind the orbit records: those that are laid are read.
-use Rattle.std.proofs.Common.{◌≡◌, ℕ, zero, suc, ◌+◌, ◌^◌, ◌<◌, ◌≤◌, Bool, true, false, List, [], ◌∷◌, ◌++◌, map, length, drop, replicate, ℤ, pos, negsuc, Some, None, Ok, Err, Option, Result, sym, refl, ap, ◌∙◌, subst, arith, lit<}
-use Rattle.std.proofs.lemmas.List.{length-append, length-map}
+use Rattle.std.proofs.Common.{◌≡◌, ℕ, zero, suc, ◌+◌, ◌^◌, ◌<◌, ◌≤◌, Bool, true, false, List, [], ◌∷◌, ◌++◌, map, length, drop, replicate, ℤ, pos, negsuc, Some, None, Ok, refl, ap, ◌∙◌, arith, lit<}
+use Rattle.std.proofs.lemmas.List.{length-append}
 use Rattle.std.proofs.lemmas.Bool.{cond-true}
-use Rattle.packet.specs.Packets.{word, header_like, filler}
+use Rattle.packet.specs.Packets.{header_like, filler}
 use Rattle.carrier.specs.Cells.{Cell, holds}
 use Rattle.record.specs.Kinds.{Kind}
 use Rattle.station.specs.declared.ramp.Ramp.{Ramp}
@@ -11,7 +11,6 @@ use Rattle.station.specs.declared.clock.Clock.{Clock}
 use Rattle.station.specs.ClockWords.{clock_kind}
 use Rattle.label.specs.Headers.{header_packet}
 use Rattle.label.proofs.HeaderLaws.{header_like_lem}
-use Rattle.odf.specs.declared.fault.FileFault.{FileFault}
 use Rattle.reading.specs.declared.walk.Stage.{Stage}
 use Rattle.reading.specs.declared.walk.Stage.TheVariants.{Orbits, Ramps, Clocks, Closed}
 use Rattle.reading.specs.Outcomes.{and_then, seen}

@@ -1,5 +1,5 @@
 -- All groups behind the orbit records: those that are read stand in the cells.
-use Rattle.std.proofs.Common.{◌≡◌, ℕ, zero, suc, ◌+◌, ◌<◌, ◌≤◌, Bool, true, false, List, [], ◌∷◌, ◌++◌, map, length, drop, replicate, pos, Some, None, Ok, Err, Option, Result, sym, refl, ap, ◌∙◌, subst, arith}
+use Rattle.std.proofs.Common.{◌≡◌, ℕ, zero, suc, ◌+◌, ◌≤◌, Bool, true, false, List, [], ◌∷◌, ◌++◌, map, length, drop, replicate, pos, Some, None, Ok, Option, sym, refl, ap, ◌∙◌, subst, arith}
 use Rattle.packet.specs.Packets.{filler}
 use Rattle.carrier.specs.Cells.{Cell, holds, Whole}
 use Rattle.station.specs.declared.ramp.Ramp.{Ramp}
@@ -7,12 +7,10 @@ use Rattle.station.specs.RampWords.{ramp_kind}
 use Rattle.station.specs.declared.clock.Clock.{Clock}
 use Rattle.station.specs.ClockWords.{clock_kind}
 use Rattle.label.specs.Headers.{header_packet}
-use Rattle.odf.specs.declared.fault.FileFault.{FileFault}
 use Rattle.reading.specs.declared.walk.Stage.{Stage}
-use Rattle.reading.specs.declared.walk.Stage.TheVariants.{Orbits, Ramps, Clocks, Closed}
-use Rattle.reading.specs.Outcomes.{seen}
+use Rattle.reading.specs.declared.walk.Stage.TheVariants.{Ramps, Clocks}
 use Rattle.reading.specs.Contents.{Ordered, Stations, packed, closing, timing, following}
-use Rattle.reading.specs.Reading.{none, station_above, group, filler_at, end_from, ending, Turn, ramps, clocks, end, turn, Rest, with_ramps, with_clocks, go_on, onward}
+use Rattle.reading.specs.Reading.{none, station_above, filler_at, end_from, ending, Turn, ramps, clocks, end, turn, Rest, with_ramps, with_clocks, go_on, onward}
 use Rattle.reading.proofs.Steps.{never, then_ok, seen_ok}
 use Rattle.reading.proofs.Groups.{Laws}
 use Rattle.reading.proofs.Openings.{Grouped, group_is, filler_is, ramp_key, clock_key}

@@ -1,5 +1,5 @@
 -- Headers, groups, summary rows and filler: what is read is what was laid.
-use Rattle.std.proofs.Common.{◌≡◌, ℕ, zero, suc, ◌+◌, ◌-◌, ◌^◌, ◌<◌, ◌≤◌, Bool, true, false, cond, ◌&&◌, eqb, ltb, leb, List, [], ◌∷◌, ◌++◌, map, length, get_or, drop, replicate, ℤ, pos, negsuc, Ok, Err, Option, Result, sym, refl, ap, ◌∙◌, subst, inl, inr, arith, lit<, w32, SFits, to_z, of_z}
+use Rattle.std.proofs.Common.{◌≡◌, ℕ, zero, suc, ◌+◌, ◌^◌, ◌<◌, ◌≤◌, true, ◌&&◌, eqb, ltb, List, [], ◌∷◌, ◌++◌, map, length, get_or, drop, replicate, ℤ, pos, negsuc, Ok, Option, sym, refl, ap, ◌∙◌, subst, arith, lit<, w32, SFits, to_z, of_z}
 use Rattle.std.proofs.lemmas.Int.{of_z-to_z}
 use Rattle.std.proofs.lemmas.Bool.{and_parts, and_from, eqb-true, eq-eqb, ltb-false, le-ltb}
 use Rattle.std.specs.Str.{bytes_eq}
@@ -9,14 +9,13 @@ use Rattle.record.specs.Kinds.{Kind}
 use Rattle.record.proofs.SignedLaws.{fits}
 use Rattle.label.specs.Headers.{headed, header_packet}
 use Rattle.label.proofs.HeaderLaws.{headed_is, headed-within, headed_back, header_like_lem, header_key, header_whole}
-use Rattle.odf.specs.declared.fault.FileFault.{FileFault}
 use Rattle.odf.specs.declared.fault.FileFault.TheVariants.{InRecord, Misplaced, OutOfOrder, WrongRow, NotFiller}
 use Rattle.reading.specs.declared.walk.Bounds.{Bounds}
-use Rattle.reading.specs.Outcomes.{and_then, lifted}
-use Rattle.reading.specs.Contents.{Ordered, packed, closing}
-use Rattle.reading.specs.Reading.{packet_at, above, opened, none, records, owner_of, enough, group, rows_at, end_at, end_behind, summary_at, filler_at, end_from}
+use Rattle.reading.specs.Outcomes.{lifted}
+use Rattle.reading.specs.Contents.{Ordered, packed}
+use Rattle.reading.specs.Reading.{above, opened, records, owner_of, enough, group, rows_at, filler_at}
 use Rattle.reading.proofs.Steps.{never, then_ok, lifted_ok, if_not, if_so, same_true, same_refl}
-use Rattle.reading.proofs.Groups.{Laws, Read, records_is, records_back}
+use Rattle.reading.proofs.Groups.{Laws, records_is, records_back}
 
 -- a key and its word
 pub record Keyed (key : ℤ) (w : ℕ) : Type 0 where

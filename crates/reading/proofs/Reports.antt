@@ -1,26 +1,22 @@
 -- The report that a walk comes to, one group after another.
-use Rattle.std.proofs.Common.{◌≡◌, ℕ, zero, suc, ◌+◌, ◌-◌, ◌≤◌, Bool, true, false, List, [], ◌∷◌, ◌++◌, length, drop, Some, None, Ok, Err, Option, Result, sym, refl, ap, ◌∙◌, add-zero, arith}
-use Rattle.std.proofs.lemmas.List.{drop-drop, length-append}
+use Rattle.std.proofs.Common.{◌≡◌, ℕ, zero, suc, ◌+◌, ◌≤◌, Bool, true, false, List, [], ◌∷◌, length, drop, None, Ok, Err, Result, sym, refl, ap, ◌∙◌, add-zero, arith}
+use Rattle.std.proofs.lemmas.List.{drop-drop}
 use Rattle.std.proofs.lemmas.Bool.{ltb-false}
 use Rattle.carrier.specs.Cells.{Cell}
 use Rattle.station.specs.declared.ramp.Ramp.{Ramp}
-use Rattle.station.specs.RampWords.{ramp_kind}
 use Rattle.station.specs.declared.clock.Clock.{Clock}
 use Rattle.station.specs.ClockWords.{clock_kind}
 use Rattle.odf.specs.declared.fault.FileFault.{FileFault}
 use Rattle.odf.specs.declared.fault.FileFault.TheVariants.{Misplaced}
-use Rattle.reading.specs.declared.report.Report.{Report}
 use Rattle.reading.specs.declared.walk.Walk.{Walk}
-use Rattle.reading.specs.declared.walk.Stage.{Stage}
-use Rattle.reading.specs.declared.walk.Stage.TheVariants.{Orbits, Ramps, Clocks, Closed}
+use Rattle.reading.specs.declared.walk.Stage.TheVariants.{Ramps, Clocks, Closed}
 use Rattle.reading.specs.Outcomes.{and_then, seen}
-use Rattle.reading.specs.Contents.{Contents, packed, closing, timing, following, packets_with}
 use Rattle.reading.specs.Files.{ramp_count, row_count}
 use Rattle.reading.specs.Reading.{packet_at, none, opened, records, owner_of, enough, group, filler_at, end_from, ending, Turn, ramps, clocks, end, turn, Rest, with_ramps, with_clocks, go_on, onward}
-use Rattle.reading.specs.Walking.{advance, ramps_end, clocks_end, start, reported}
+use Rattle.reading.specs.Walking.{advance, ramps_end, clocks_end, reported}
 use Rattle.reading.proofs.Steps.{never, then_ok, seen_ok, if_not}
-use Rattle.reading.proofs.Turns.{last_of, Turned, turn_is}
-use Rattle.reading.proofs.Laying.{turned, length-packed}
+use Rattle.reading.proofs.Turns.{Turned, turn_is}
+use Rattle.reading.proofs.Laying.{turned}
 
 last_turn : (f : ℕ) (rows : List (List ℕ)) (k : ℕ) (cs : List Cell) (t : Turn) (r : Rest) → Turned Clocks rows k cs t → go_on (λ st j ds. onward f st rows j ds) rows k cs t ≡ Ok r → (r.ramps ≡ []) × (r.clocks ≡ [])
 last_turn f rows k cs (ramps g) r t e = let q = t.1.0 in let z : ◌≡◌ {A = ℕ} 0 1 = cc in absurd (omega arith)

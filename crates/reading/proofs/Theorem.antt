@@ -1,5 +1,5 @@
 -- The law of reading.
-use Rattle.std.proofs.Common.{◌≡◌, ℕ, zero, suc, ◌+◌, ◌-◌, ◌^◌, ◌<◌, ◌≤◌, Bool, true, false, List, [], ◌∷◌, ◌++◌, map, length, take, drop, replicate, pos, negsuc, Some, None, Ok, Err, Result, sym, refl, ap, ◌∙◌, subst, zero-add, arith}
+use Rattle.std.proofs.Common.{◌≡◌, ℕ, suc, ◌+◌, ◌-◌, ◌≤◌, Bool, true, false, List, [], ◌∷◌, ◌++◌, map, length, take, drop, replicate, pos, negsuc, Some, Ok, Err, Result, sym, refl, ap, ◌∙◌, subst, zero-add, arith}
 use Rattle.std.proofs.lemmas.List.{length-append, append-nil}
 use Rattle.packet.specs.Packets.{bytes_of, filler}
 use Rattle.carrier.specs.Cells.{Cell, holds, Whole}
@@ -18,15 +18,15 @@ use Rattle.odf.specs.declared.fault.FileFault.{FileFault}
 use Rattle.reading.specs.declared.report.Report.{Report}
 use Rattle.reading.specs.declared.walk.Stage.TheVariants.{Orbits}
 use Rattle.reading.specs.Outcomes.{and_then, seen}
-use Rattle.reading.specs.Contents.{Contents, packed, closing, timing, following, packets_with, filled}
+use Rattle.reading.specs.Contents.{Contents, packed, closing, timing, following, filled}
 use Rattle.reading.specs.Files.{summary_rows, packets, FileOf, ramp_count, row_count, report_of, reads, answer, Judged, up_to_end, Telling}
 use Rattle.reading.specs.Reading.{none, group, end_from, Rest, opening, onward}
 use Rattle.reading.specs.Walking.{rows_over, ramps_end, clocks_end, start, reported}
-use Rattle.reading.proofs.Steps.{never, then_ok, seen_ok}
-use Rattle.reading.proofs.Openings.{Grouped, group_is, orbit_key}
+use Rattle.reading.proofs.Steps.{never}
+use Rattle.reading.proofs.Openings.{group_is, orbit_key}
 use Rattle.reading.proofs.Turns.{drop_one_more}
 use Rattle.reading.proofs.Laying.{length-packed}
-use Rattle.reading.proofs.Files.{orbits_lawful, Stands, reads_is, reads_back, length_laid}
+use Rattle.reading.proofs.Files.{orbits_lawful, reads_is, reads_back, length_laid}
 
 -- where the end packet stands
 closing_end : (s : Bool) (rows : List (List ℕ)) (k : ℕ) → k + length (closing s rows k) ≡ suc (end_from s rows k)

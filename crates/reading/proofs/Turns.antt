@@ -1,25 +1,18 @@
 -- The groups behind the orbit records: what is read is what was laid.
-use Rattle.std.proofs.Common.{◌≡◌, ℕ, zero, suc, ◌+◌, ◌-◌, ◌^◌, ◌<◌, ◌≤◌, Bool, true, false, cond, ◌&&◌, eqb, ltb, leb, List, [], ◌∷◌, ◌++◌, map, length, get_or, drop, replicate, ℤ, pos, negsuc, Some, None, Ok, Err, Option, Result, sym, refl, ap, ◌∙◌, subst, inl, inr, arith, lit<}
-use Rattle.std.proofs.lemmas.Bool.{cases_Bool, eqb-true, eq-eqb, ne_eqb}
-use Rattle.packet.specs.Packets.{word, header_like, filler}
+use Rattle.std.proofs.Common.{◌≡◌, ℕ, zero, suc, ◌+◌, true, false, cond, eqb, List, [], ◌∷◌, ◌++◌, map, length, drop, pos, negsuc, Some, None, Ok, Option, sym, refl, ap, ◌∙◌, subst, inl, inr, arith}
+use Rattle.std.proofs.lemmas.Bool.{cases_Bool}
+use Rattle.packet.specs.Packets.{word, header_like}
 use Rattle.carrier.specs.Cells.{Cell, holds, damaged, Proper, Whole}
-use Rattle.record.specs.Kinds.{Kind}
-use Rattle.station.specs.declared.ramp.Ramp.{Ramp}
 use Rattle.station.specs.RampWords.{ramp_kind}
-use Rattle.station.specs.declared.clock.Clock.{Clock}
 use Rattle.station.specs.ClockWords.{clock_kind}
 use Rattle.label.specs.Headers.{header_packet}
-use Rattle.odf.specs.declared.fault.FileFault.{FileFault}
-use Rattle.odf.specs.declared.fault.FileFault.TheVariants.{InRecord, Misplaced, OutOfOrder, WrongRow, NotFiller}
-use Rattle.reading.specs.declared.walk.Bounds.{Bounds}
+use Rattle.odf.specs.declared.fault.FileFault.TheVariants.{Misplaced, WrongRow}
 use Rattle.reading.specs.declared.walk.Stage.{Stage}
 use Rattle.reading.specs.declared.walk.Stage.TheVariants.{Orbits, Ramps, Clocks, Closed}
-use Rattle.reading.specs.Outcomes.{and_then, lifted, seen}
-use Rattle.reading.specs.Contents.{Ordered, Stations, packed, closing, timing, following}
-use Rattle.reading.specs.Reading.{packet_at, opened, none, station_above, group, rows_at, end_at, end_behind, summary_at, filler_at, end_from, Turn, ramps, clocks, end, Part, ramps_above, clock_group, summary, end_packet, nothing, closing_part, timing_part, part, turn_to, turn, Rest, with_ramps, with_clocks, go_on, onward}
-use Rattle.reading.proofs.Steps.{never, then_ok, lifted_ok, seen_ok, if_not, if_so, packet_ok}
-use Rattle.reading.proofs.Groups.{Laws}
-use Rattle.reading.proofs.Openings.{Keyed, Within, Grouped, opened_is, group_is, rows_is, filler_is, ramp_key, clock_key, summary_key, end_key}
+use Rattle.reading.specs.Contents.{closing}
+use Rattle.reading.specs.Reading.{packet_at, opened, none, station_above, group, rows_at, end_at, end_behind, summary_at, Turn, ramps, clocks, end, Part, ramps_above, clock_group, summary, end_packet, nothing, closing_part, timing_part, part, turn_to, turn}
+use Rattle.reading.proofs.Steps.{never, then_ok, seen_ok, if_so}
+use Rattle.reading.proofs.Openings.{Within, opened_is, rows_is, summary_key, end_key}
 
 -- the station above which the next ramps' has to be, where ramps or clock offsets may follow
 abbrev pub last_of : Stage → Option ℕ

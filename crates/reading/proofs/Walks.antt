@@ -1,5 +1,5 @@
 -- The cells of a carrier as they are walked.
-use Rattle.std.proofs.Common.{◌≡◌, ℕ, zero, suc, ◌+◌, ◌<◌, ◌≤◌, Bool, true, false, cond, ltb, List, [], ◌∷◌, length, drop, Some, None, Ok, Err, Decides, Option, Result, sym, refl, ap, ◌∙◌, add-one, arith, length-drop, drop_of_length-le}
+use Rattle.std.proofs.Common.{◌≡◌, ℕ, zero, suc, ◌+◌, ◌<◌, ◌≤◌, Bool, true, false, cond, ltb, List, [], ◌∷◌, length, drop, Some, Ok, Err, Decides, Option, Result, sym, refl, ap, ◌∙◌, add-one, arith, length-drop, drop_of_length-le}
 use Rattle.std.specs.Str.{bytes_eq}
 use Rattle.std.proofs.lemmas.Bool.{cond-true, cond-false, lt-ltb, le-ltb}
 use Rattle.packet.specs.Packets.{filler, header_like, word}
@@ -17,7 +17,6 @@ use Rattle.reading.specs.Reading.{packet_at, filler_at, joined, records, opened,
 use Rattle.reading.specs.Walking.{counted}
 use Rattle.reading.specs.declared.walk.Bounds.{Bounds}
 use Rattle.reading.specs.declared.walk.Stage.{Stage}
-use Rattle.reading.specs.declared.walk.Group.{Group}
 use Rattle.reading.proofs.Steps.{never, packet_ok, seen_ok, if_not}
 use Rattle.reading.proofs.Turns.{drop_one_more}
 

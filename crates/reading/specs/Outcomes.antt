@@ -1,5 +1,5 @@
 -- Outcomes of one step after another.
-use Rattle.std.specs.Prelude.{List, ◌∷◌, Ok, Err, Result}
+use Rattle.std.specs.Prelude.{Ok, Err, Result}
 
 -- the further step, where the first has an answer
 abbrev pub and_then : {A B E : Type 0} → Result A E → (A → Result B E) → Result B E

@@ -1,5 +1,5 @@
 -- What reading a row of cells answers: the contents of the file that it is, or the first fault.
-use Rattle.std.specs.Prelude.{ℕ, zero, suc, ◌+◌, Bool, true, false, cond, ◌&&◌, List, [], ◌∷◌, map, length, drop, Some, None, Ok, Err, Option, Result, ◌==◌, nat_lt}
+use Rattle.std.specs.Prelude.{ℕ, zero, suc, ◌+◌, Bool, true, false, cond, ◌&&◌, List, [], ◌∷◌, length, drop, Some, None, Ok, Err, Option, Result, ◌==◌, nat_lt}
 use Rattle.std.specs.Str.{bytes_eq}
 use Rattle.packet.specs.Packets.{word, header_like, filler}
 use Rattle.carrier.specs.Cells.{Cell, holds, damaged}
@@ -20,8 +20,6 @@ use Rattle.label.specs.Headers.{headed}
 use Rattle.label.specs.Identifiers.{bad_identifier}
 use Rattle.odf.specs.declared.fault.FileFault.{FileFault}
 use Rattle.odf.specs.declared.fault.FileFault.TheVariants.{InRecord, Misplaced, Ended, OutOfOrder, WrongRow, NotFiller}
-use Rattle.reading.specs.declared.report.Report.{Report}
-use Rattle.reading.specs.declared.walk.Walk.{Walk}
 use Rattle.reading.specs.declared.walk.Bounds.{Bounds}
 use Rattle.reading.specs.declared.walk.Stage.{Stage}
 use Rattle.reading.specs.declared.walk.Stage.TheVariants.{Orbits, Ramps, Clocks, Closed}

@@ -1,5 +1,5 @@
 -- How far a walk through a file has come, as numbers.
-use Rattle.std.specs.Prelude.{◌≡◌, ℕ, suc, ◌+◌, ◌≤◌, Bool, true, false, List, [], ◌∷◌, length, take, drop, Some, None, Option}
+use Rattle.std.specs.Prelude.{ℕ, suc, ◌+◌, ◌≤◌, List, [], ◌∷◌, length, take, drop, None}
 use Rattle.carrier.specs.Cells.{Cell}
 use Rattle.station.specs.declared.ramp.Ramp.{Ramp}
 use Rattle.station.specs.declared.clock.Clock.{Clock}

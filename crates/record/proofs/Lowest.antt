@@ -1,5 +1,5 @@
 -- One step of the search for the first rule that is broken.
-use Rattle.std.proofs.Common.{◌≡◌, ℕ, zero, suc, ◌<◌, ◌≤◌, Bool, true, false, List, [], ◌∷◌, length, get_or, drop, sym, refl, ap, ◌∙◌, le_of_suc-le-suc, not-suc-le-zero, arith, drop-cons}
+use Rattle.std.proofs.Common.{◌≡◌, ℕ, zero, suc, ◌<◌, ◌≤◌, Bool, true, false, List, [], ◌∷◌, length, get_or, drop, refl, le_of_suc-le-suc, not-suc-le-zero, arith, drop-cons}
 use Rattle.record.specs.Rules.{lowest}
 
 pub here : (i k : ℕ) (bs : List Bool) → k < length bs → get_or bs k false ≡ false → lowest i (drop k bs) ≡ i

@@ -1,4 +1,3 @@
-use Rattle.std.proofs.Common.{arith}
 use Rattle.convert.proofs.Lengths.{smallest}
 use Rattle.convert.proofs.length_for.Goals as goal
 

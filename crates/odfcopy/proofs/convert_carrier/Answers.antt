@@ -1,9 +1,9 @@
-use Rattle.std.proofs.Common.{◌≡◌, ℕ, ◌≤◌, List, ◌++◌, length, take, drop, replicate, vec_items, vec_len, sym, ap, ◌∙◌, subst, arith}
+use Rattle.std.proofs.Common.{◌≡◌, ℕ, ◌≤◌, List, ◌++◌, length, take, drop, replicate, sym, ap, ◌∙◌, subst, arith}
 use Rattle.std.proofs.lemmas.List.{take_at}
 use Rattle.std.proofs.lemmas.Result.{err_from_is_err_and}
 use Rattle.carrier.specs.Cells.{first_damage}
 use Rattle.makes.specs.Names.{shape_of}
-use Rattle.makes.specs.Shapes.{count_for, count_of, cells_of}
+use Rattle.makes.specs.Shapes.{count_for, cells_of}
 use Rattle.makes.proofs.Rows.{length_cells}
 use Rattle.convert.specs.Conversion.{Refilled, Smallest}
 use Rattle.convert.proofs.Refills.{answer_counts, answer_damage}

@@ -1,4 +1,4 @@
-use Rattle.std.proofs.Common.{◌≡◌, get_or, sym, ap, ◌∙◌, arith, rules}
+use Rattle.std.proofs.Common.{get_or, sym, ap, ◌∙◌, arith, rules}
 use Rattle.label.specs.Headers.{headed_by}
 use Rattle.label.proofs.HeaderLaws.{answer, refuses}
 use Rattle.label.proofs.header.check_header.Goals as goal

@@ -1,7 +1,5 @@
-use Rattle.std.proofs.Common.{◌≡◌, ℕ, ◌*◌, ◌/◌, ◌<◌, ◌≤◌, min, length, get_or, replicate, sym, ap, ◌∙◌, arith, rules, below_more}
-use Rattle.packet.specs.Packets.{filler}
-use Rattle.carrier.specs.Cells.{holds}
-use Rattle.makes.specs.Shapes.{count_for, count_of, cell_of, cells_of}
+use Rattle.std.proofs.Common.{◌≡◌, length, sym, ap, ◌∙◌, arith, below_more}
+use Rattle.makes.specs.Shapes.{count_for, count_of, cells_of}
 use Rattle.makes.proofs.Rows.{length_cells}
 use Rattle.makes.proofs.Clears.{cells_const}
 use Rattle.makes.proofs.blocks.clear.Goals as goal

@@ -1,7 +1,6 @@
-use Rattle.std.proofs.Common.{◌≡◌, ℕ, ◌+◌, ◌-◌, ◌<◌, ◌≤◌, List, length, get_or, take, drop, Some, None, sym, ap, ◌∙◌, subst, arith, rules}
+use Rattle.std.proofs.Common.{◌≡◌, ℕ, ◌+◌, ◌-◌, length, get_or, None, ap, ◌∙◌, subst, arith}
 use borrow.Rule.Slice.PartMut.{put_mid}
-use Rattle.packet.specs.Packets.{filler}
-use Rattle.makes.specs.Shapes.{start_of, place_of, wrong_in, NotFixed}
+use Rattle.makes.specs.Shapes.{wrong_in, NotFixed}
 use Rattle.makes.proofs.Rows.{beside_put_mid, part_put_mid}
 use Rattle.makes.proofs.Clears.{Fixed, cleared_here, cleared_kept, cleared_others}
 use Rattle.makes.proofs.blocks.clear_cell.Goals as goal

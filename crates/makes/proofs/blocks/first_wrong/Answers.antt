@@ -1,4 +1,4 @@
-use Rattle.std.proofs.Common.{◌≡◌, ◌+◌, ◌<◌, length, get_or, drop, sym, ap, ◌∙◌, arith, rules}
+use Rattle.std.proofs.Common.{ap, ◌∙◌, arith}
 use Rattle.makes.specs.Shapes.{wrong_in}
 use Rattle.makes.proofs.Rows.{fixed-within, wrong_none, wrong_some, wrong_end}
 use Rattle.makes.proofs.blocks.first_wrong.Goals as goal

@@ -1,4 +1,4 @@
-use Rattle.std.proofs.Common.{◌≡◌, take, drop, Some, None, sym, ap, ◌∙◌, arith, rules}
+use Rattle.std.proofs.Common.{◌≡◌, take, drop, Some, None, sym, ap, ◌∙◌, arith}
 use Rattle.carrier.specs.Cells.{reply, holds}
 use Rattle.makes.specs.Shapes.{wrong_in, start_of, place_of, cell_from}
 use Rattle.makes.proofs.Rows.{cells_past, cells_at}

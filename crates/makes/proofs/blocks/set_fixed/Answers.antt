@@ -1,4 +1,4 @@
-use Rattle.std.proofs.Common.{◌≡◌, ℕ, ◌+◌, ◌<◌, List, length, get_or, None, sym, ap, ◌∙◌, subst, arith, rules}
+use Rattle.std.proofs.Common.{◌≡◌, ℕ, List, length, get_or, None, sym, subst, arith}
 use Rattle.makes.specs.Shapes.{wrong_in, NotFixed, Rising}
 use Rattle.makes.proofs.Rows.{fixed-within}
 use Rattle.makes.proofs.Clears.{set_right, set_others, all_right}

@@ -1,7 +1,6 @@
-use Rattle.std.proofs.Common.{◌≡◌, ℕ, true, false, Some, sym, ap, ◌∙◌, arith}
+use Rattle.std.proofs.Common.{◌≡◌, true, sym, ap, ◌∙◌}
 use Rattle.std.proofs.lemmas.Bool.{cond-true, both_ways}
 use Rattle.packet.specs.Packets.{bytes_of, header_like}
-use Rattle.carrier.specs.Cells.{holds, cell_at}
 use Rattle.record.proofs.Data.{no_header}
 use Rattle.odf.specs.Picking.{pick_fault}
 use Rattle.odf.proofs.pick.pick.Goals as goal

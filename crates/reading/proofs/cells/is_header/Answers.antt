@@ -1,4 +1,4 @@
-use Rattle.std.proofs.Common.{◌≡◌, get_or, sym, ap, ◌∙◌, lit<, rules}
+use Rattle.std.proofs.Common.{get_or, ap, ◌∙◌, lit<, rules}
 use Rattle.packet.proofs.PacketLaws.{words_at}
 use Rattle.reading.proofs.cells.is_header.Goals as goal
 

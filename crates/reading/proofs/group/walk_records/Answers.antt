@@ -1,4 +1,4 @@
-use Rattle.std.proofs.Common.{◌≡◌, suc, ◌+◌, ◌-◌, drop, Err, sym, refl, ap, ◌∙◌, add-one, arith, rules}
+use Rattle.std.proofs.Common.{◌≡◌, suc, ◌+◌, ◌-◌, drop, Err, sym, ap, ◌∙◌, add-one, arith, rules}
 use Rattle.odf.specs.declared.fault.FileFault.TheVariants.{Ended}
 use Rattle.record.specs.Kinds.{kind_by}
 use Rattle.reading.specs.Outcomes.{seen}

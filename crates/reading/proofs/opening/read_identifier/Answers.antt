@@ -1,4 +1,4 @@
-use Rattle.std.proofs.Common.{◌≡◌, drop, Err, sym, ap, ◌∙◌, rules}
+use Rattle.std.proofs.Common.{drop, Err, sym, ap, ◌∙◌, rules}
 use Rattle.std.proofs.lemmas.Result.{err_from_is_err_and}
 use Rattle.label.specs.Identifiers.{bad_identifier}
 use Rattle.label.proofs.IdentifierLaws as identifier-laws

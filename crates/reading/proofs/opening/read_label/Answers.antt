@@ -1,4 +1,4 @@
-use Rattle.std.proofs.Common.{◌≡◌, drop, sym, ap, ◌∙◌, rules}
+use Rattle.std.proofs.Common.{drop, sym, ap, ◌∙◌}
 use Rattle.record.specs.Kinds.{plain}
 use Rattle.label.specs.Labels.{unpacked, bad}
 use Rattle.odf.specs.declared.fault.FileFault.TheVariants.{InRecord}

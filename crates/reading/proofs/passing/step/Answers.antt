@@ -1,8 +1,8 @@
-use Rattle.std.proofs.Common.{◌≡◌, true, false, get_or, sym, refl, ap, ◌∙◌, lit<, rules}
+use Rattle.std.proofs.Common.{◌≡◌, true, false, get_or, sym, ap, ◌∙◌, lit<, rules}
 use Rattle.packet.specs.Packets.{word}
 use Rattle.packet.proofs.PacketLaws.{words_at}
 use Rattle.reading.specs.Outcomes.{seen}
-use Rattle.reading.specs.Reading.{ramps, clocks, end, Part, ramps_above, clock_group, summary, end_packet, nothing, part, turn_to}
+use Rattle.reading.specs.Reading.{ramps, clocks, end, ramps_above, clock_group, summary, end_packet, nothing, part}
 use Rattle.reading.specs.Walking.{rows_over, advance}
 use Rattle.reading.proofs.Walks.{turn_by, seen-seen}
 use Rattle.reading.proofs.passing.step.Goals as goal

@@ -1,4 +1,3 @@
-use Rattle.std.proofs.Common.{◌≡◌, ap}
 use Rattle.reading.specs.Files.{both}
 use Rattle.reading.proofs.Theorem.{telling}
 use Rattle.reading.proofs.read.read_both.Goals as goal

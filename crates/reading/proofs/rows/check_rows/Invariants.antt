@@ -1,8 +1,7 @@
 use Rattle.std.proofs.Common.{◌≡◌, ◌+◌, ◌≤◌, map, length, drop}
-use Rattle.summary.specs.Rows.{rows_of, over}
+use Rattle.summary.specs.Rows.{over}
 use Rattle.summary.specs.RowWords.{row_packet}
-use Rattle.summary.specs.SummaryKeys.{summary_of, summary_lt}
-use Rattle.summary.specs.Found.{orbits_in}
+use Rattle.summary.specs.SummaryKeys.{summary_lt}
 use Rattle.reading.specs.Reading.{rows_at}
 use Rattle.reading.proofs.Batches.{all_rows}
 use Rattle.reading.proofs.rows.check_rows.Given as goal

@@ -1,6 +1,6 @@
 use Rattle.std.proofs.Common.{◌≡◌, ℕ, ◌^◌, ◌<◌, length, get_or, sym, ap, ◌∙◌, arith, rules}
 use Rattle.std.proofs.lemmas.Result.{MatchResult-weaker}
-use Rattle.packet.specs.Packets.{bytes_of, words_of}
+use Rattle.packet.specs.Packets.{bytes_of}
 use Rattle.packet.proofs.PacketLaws.{words_back}
 use Rattle.record.specs.Kinds.{judged}
 use Rattle.record.specs.declared.fault.RecordFault.TheVariants.{BadItem}

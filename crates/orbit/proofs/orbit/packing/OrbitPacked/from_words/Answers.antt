@@ -1,4 +1,4 @@
-use Rattle.std.proofs.Common.{◌≡◌, sym, ap, ◌∙◌, arith, rules}
+use Rattle.std.proofs.Common.{ap, ◌∙◌, rules}
 use Rattle.orbit.specs.OrbitWords.{orbit_words}
 use Rattle.orbit.specs.OrbitLaws.{words_back}
 use Rattle.orbit.proofs.orbit.packing.OrbitPacked.from_words.Goals as goal
