@@ -10,5 +10,5 @@ fits_lawful i e = omega arith
 pub fits_narrow : (i : LabelItems) → unfit i ≡ 0 → (i.system < 2 ^ 64) × (i.program < 2 ^ 64)
 fits_narrow i e = (omega arith, omega arith)
 
-pub unfit-none : (i : LabelItems) → bad_label i ≡ 0 → i.system < 2 ^ 64 → i.program < 2 ^ 64 → unfit i ≡ 0
-unfit-none i e s p = omega arith
+pub unfit_none : (i : LabelItems) → bad_label i ≡ 0 → i.system < 2 ^ 64 → i.program < 2 ^ 64 → unfit i ≡ 0
+unfit_none i e s p = omega arith

@@ -5,12 +5,12 @@ use Rattle.std.proofs.Math.Nat.{ℕ_set}
 use Rattle.std.proofs.Math.Bridge.{le_prop}
 use Rattle.std.proofs.lemmas.Nat.{shr_split}
 use Rattle.std.proofs.lemmas.Bool.Decides.{nat_tests}
-use Rattle.record.proofs.Forming.{Forming, apart_by, forms, formed_items}
+use Rattle.record.proofs.Forming.{Forming, same as same_record, apart_by, forms, formed_items}
 use Rattle.record.proofs.Lowest.{kept}
 use Rattle.record.proofs.Words.{nine, each_at}
 use Rattle.label.specs.Calendar.{is_date, is_time}
 use Rattle.label.specs.LabelRules.{label_rules, bad_label, unfit, label_words, label_of}
-use Rattle.label.specs.Fits.{fits_lawful, fits_narrow, unfit-none}
+use Rattle.label.specs.Fits.{fits_lawful, fits_narrow, unfit_none}
 use Rattle.label.specs.Labels.{items_of, made, packed, unpacked}
 use Rattle.label.specs.declared.label.LabelItems.{LabelItems}
 use Rattle.label.specs.declared.label.Label.{Label}
@@ -64,11 +64,8 @@ narrow_items i e =
       reftime = grind (arith, nat_tests);
     }
 
-none-bad : (x : Label) → bad_label (items_of x) ≡ 0
-none-bad x = x.lawful
-
 pub narrow_label : (x : Label) → Narrow (items_of x)
-narrow_label x = narrow_items (items_of x) (none-bad x)
+narrow_label x = narrow_items (items_of x) x.lawful
 
 -- a label made of its own items is that label
 whole : (x : Label) (e : unfit (items_of x) ≡ 0) → made (items_of x) e ≡ x
@@ -86,22 +83,25 @@ whole x e =
     }
 
 fits : (x : Label) → unfit (items_of x) ≡ 0
-fits x = unfit-none (items_of x) x.lawful x.narrow.0 x.narrow.1
+fits x = unfit_none (items_of x) x.lawful x.narrow.0 x.narrow.1
 
 abbrev forming : Forming LabelItems Label
 forming = record { bad = unfit; made = made; items = items_of; kept = fits; whole = λ x. whole x (fits x); exact = λ i e. refl }
 
-pub back : (x : Label) → unpacked (packed x) ≡ Some x
-back x = forms forming x (label_of (packed x)) (items_back (items_of x))
+pub same : (x y : Label) → items_of x ≡ items_of y → x ≡ y
+same = same_record forming
 
-pub apart : (x y : Label) → packed x ≡ packed y → x ≡ y
-apart = apart_by packed unpacked back
+pub read_back : (x : Label) → unpacked (packed x) ≡ Some x
+read_back x = forms forming x (label_of (packed x)) (items_back (items_of x))
+
+pub apart : (x y : Label) → label_words (items_of x) ≡ label_words (items_of y) → x ≡ y
+apart = apart_by packed unpacked read_back
 
 pub given : (w : List ℕ) (x : Label) → length w ≡ 9 → ((k : ℕ) → slice_index w k < 2 ^ 32) → unpacked w ≡ Some x → packed x ≡ w
 given w x n h e = ap label_words (formed_items forming x (label_of w) e) ∙ words_back w n (h 1) (h 3)
 
 pub lawful : (x : Label) → bad_label (label_of (label_words (items_of x))) ≡ 0
-lawful x = ap bad_label (items_back (items_of x)) ∙ none-bad x
+lawful x = ap bad_label (items_back (items_of x)) ∙ x.lawful
 
 pub nine_words : (x : Label) → length (label_words (items_of x)) ≡ 9
 unfolding label_words

@@ -4,7 +4,7 @@ use Rattle.std.proofs.Common.{◌∙◌, ap, arith, lit<}
 use Rattle.std.proofs.lemmas.Bool.{eqb-true, leb-true}
 use Rattle.packet.specs.Fields.{join}
 use Rattle.packet.proofs.FieldLaws.{join_below}
-use Rattle.record.proofs.Forming.{Forming, apart_by, forms, formed_items}
+use Rattle.record.proofs.Forming.{Forming, same as same_record, apart_by, forms, formed_items}
 use Rattle.record.proofs.Lowest.{kept}
 use Rattle.record.proofs.SignedLaws.{word_below}
 use Rattle.record.proofs.Words.{each_at}
@@ -18,20 +18,23 @@ use Rattle.orbit.specs.OrbitLaws.{wide, items_back, words_back}
 abbrev forming : Forming OrbitItems Orbit
 forming = record { bad = bad_orbit; made = made; items = items_of; kept = λ x. x.lawful; whole = λ x. refl; exact = λ i e. refl }
 
-items_again : (x : Orbit) → orbit_of (orbit_words (items_of x)) ≡ items_of x
-items_again x = items_back (items_of x) (wide (items_of x) x.lawful)
+back : (x : Orbit) → orbit_of (orbit_words (items_of x)) ≡ items_of x
+back x = items_back (items_of x) (wide (items_of x) x.lawful)
 
-pub back : (x : Orbit) → unpacked (packed x) ≡ Some x
-back x = forms forming x (orbit_of (packed x)) (items_again x)
+same : (x y : Orbit) → items_of x ≡ items_of y → x ≡ y
+same = same_record forming
 
-pub apart : (x y : Orbit) → packed x ≡ packed y → x ≡ y
-apart = apart_by packed unpacked back
+pub read_back : (x : Orbit) → unpacked (packed x) ≡ Some x
+read_back x = forms forming x (orbit_of (packed x)) (back x)
+
+pub apart : (x y : Orbit) → orbit_words (items_of x) ≡ orbit_words (items_of y) → x ≡ y
+apart = apart_by packed unpacked read_back
 
 pub given : (w : List ℕ) (x : Orbit) → length w ≡ 9 → ((k : ℕ) → slice_index w k < 2 ^ 32) → unpacked w ≡ Some x → packed x ≡ w
 given w x n h e = ap orbit_words (formed_items forming x (orbit_of w) e) ∙ words_back w n h
 
 pub lawful : (x : Orbit) → bad_orbit (orbit_of (orbit_words (items_of x))) ≡ 0
-lawful x = ap bad_orbit (items_again x) ∙ x.lawful
+lawful x = ap bad_orbit (back x) ∙ x.lawful
 
 two : (i : OrbitItems) → bad_orbit i ≡ 0 → i.format ≡ 2
 unfolding bad_orbit orbit_rules

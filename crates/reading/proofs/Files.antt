@@ -33,20 +33,20 @@ use Rattle.reading.proofs.Onward.{Behind, onward_is}
 use Rattle.reading.proofs.Laying.{none_within, length-packed, following-headed, following_some, onward_back}
 
 pub orbits_lawful : Laws orbit_kind
-orbits_lawful = record { back = orbit-laws.back; given = orbit-laws.given; nine = orbit-laws.nine_words; narrow = orbit-laws.narrow; headless = λ x e _. orbit-laws.headless x e }
+orbits_lawful = record { back = orbit-laws.read_back; given = orbit-laws.given; nine = orbit-laws.nine_words; narrow = orbit-laws.narrow; headless = λ x e _. orbit-laws.headless x e }
 
 pub ramps_lawful : Laws ramp_kind
-ramps_lawful = record { back = ramp-laws.back; given = ramp-laws.given; nine = ramp-laws.nine_words; narrow = ramp-laws.narrow; headless = λ x e _. ramp-laws.headless x e }
+ramps_lawful = record { back = ramp-laws.read_back; given = ramp-laws.given; nine = ramp-laws.nine_words; narrow = ramp-laws.narrow; headless = λ x e _. ramp-laws.headless x e }
 
 pub clocks_lawful : Laws clock_kind
-clocks_lawful = record { back = clock-laws.back; given = clock-laws.given; nine = clock-laws.nine_words; narrow = clock-laws.narrow; headless = λ x e _. clock-laws.headless x e }
+clocks_lawful = record { back = clock-laws.read_back; given = clock-laws.given; nine = clock-laws.nine_words; narrow = clock-laws.narrow; headless = λ x e _. clock-laws.headless x e }
 
 -- a label is read as a record without an owner
 abbrev label_kind : Kind Label
 label_kind = kind_by labels.packed labels.unpacked labels.bad (λ _ _. 0) (λ _. 0) (λ _. 0)
 
 labels_lawful : Laws label_kind
-labels_lawful = record { back = label-laws.back; given = label-laws.given; nine = label-laws.nine_words; narrow = label-laws.narrow; headless = λ x e _. label-laws.headless x e }
+labels_lawful = record { back = label-laws.read_back; given = label-laws.given; nine = label-laws.nine_words; narrow = label-laws.narrow; headless = λ x e _. label-laws.headless x e }
 
 header_is : (key : ℤ) (w k : ℕ) (cs : List Cell) (s : ℕ) → Keyed key w → Whole cs → header_at w k cs ≡ Ok s → cs ≡ holds (header_packet key 0 1 k) ∷ drop 1 cs
 header_is key w k [] s y h e = never _ s e

@@ -5,7 +5,7 @@ use Rattle.std.specs.Int.{w32}
 use Rattle.std.proofs.lemmas.Int.{of_z-to_z}
 use Rattle.std.proofs.lemmas.Bool.{leb-true, eqb-true, and_parts}
 use Rattle.record.specs.Rules.{signed32}
-use Rattle.record.proofs.Forming.{Forming, apart_by, forms, formed_items}
+use Rattle.record.proofs.Forming.{Forming, same as same_record, apart_by, forms, formed_items}
 use Rattle.record.proofs.Lowest.{kept}
 use Rattle.record.proofs.Words.{nine, each_at}
 use Rattle.station.specs.ClockRules.{bad_clock, clock_rules, clock_words, clock_of}
@@ -46,12 +46,12 @@ keeps i e =
 pub holds : (x : Clock) → Kept (items_of x)
 holds x = keeps (items_of x) x.lawful
 
-items_back : (i : ClockItems) → Kept i → clock_of (clock_words i) ≡ i
+back : (i : ClockItems) → Kept i → clock_of (clock_words i) ≡ i
 unfolding clock_words clock_of
-items_back i k = rw (number_back i.offset k.offset, number_back i.part k.part)
+back i k = rw (number_back i.offset k.offset, number_back i.part k.part)
 
 items_again : (x : Clock) → clock_of (packed x) ≡ items_of x
-items_again x = items_back (items_of x) (holds x)
+items_again x = back (items_of x) (holds x)
 
 pub words_back : (w : List ℕ) → length w ≡ 9 → slice_index w 2 < 2 ^ 32 → slice_index w 3 < 2 ^ 32 → clock_words (clock_of w) ≡ w
 unfolding clock_words clock_of
@@ -61,13 +61,16 @@ abbrev forming : Forming ClockItems Clock
 forming = record { bad = bad_clock; made = made; items = items_of; kept = λ x. x.lawful; whole = λ x. refl; exact = λ i e. refl }
 
 pub lawful : (x : Clock) → bad_clock (clock_of (clock_words (items_of x))) ≡ 0
-lawful x = ap bad_clock (items_again x) ∙ x.lawful
+lawful x = ap bad_clock (back (items_of x) (holds x)) ∙ x.lawful
 
-pub back : (x : Clock) → unpacked (packed x) ≡ Some x
-back x = forms forming x (clock_of (packed x)) (items_again x)
+same : (x y : Clock) → items_of x ≡ items_of y → x ≡ y
+same = same_record forming
 
-pub apart : (x y : Clock) → packed x ≡ packed y → x ≡ y
-apart = apart_by packed unpacked back
+pub read_back : (x : Clock) → unpacked (packed x) ≡ Some x
+read_back x = forms forming x (clock_of (packed x)) (items_again x)
+
+pub apart : (x y : Clock) → clock_words (items_of x) ≡ clock_words (items_of y) → x ≡ y
+apart = apart_by packed unpacked read_back
 
 pub given : (w : List ℕ) (x : Clock) → length w ≡ 9 → ((k : ℕ) → slice_index w k < 2 ^ 32) → unpacked w ≡ Some x → packed x ≡ w
 given w x n h e = ap clock_words (formed_items forming x (clock_of w) e) ∙ words_back w n (h 2) (h 3)

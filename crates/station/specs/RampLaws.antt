@@ -6,7 +6,7 @@ use Rattle.std.proofs.lemmas.Int.{of_z-to_z}
 use Rattle.std.proofs.lemmas.Bool.{leb-true, and_parts}
 use Rattle.std.proofs.lemmas.Bool.Decides.{nat_tests}
 use Rattle.record.specs.Rules.{signed32}
-use Rattle.record.proofs.Forming.{Forming, apart_by, forms, formed_items}
+use Rattle.record.proofs.Forming.{Forming, same as same_record, apart_by, forms, formed_items}
 use Rattle.record.proofs.Lowest.{kept}
 use Rattle.record.proofs.Words.{nine, each_at}
 use Rattle.station.specs.RampRules.{ended, bad_ramp, ramp_rules, ramp_words, ramp_of}
@@ -62,12 +62,12 @@ low m n h = omega arith
 joined : (n : ℕ) → n / 1024 * 1024 + n % 1024 ≡ n
 joined n = omega arith
 
-items_back : (i : RampItems) → Kept i → ramp_of (ramp_words i) ≡ i
+back : (i : RampItems) → Kept i → ramp_of (ramp_words i) ≡ i
 unfolding ramp_words ramp_of
-items_back i k = rw (number_back i.rate k.rate, number_back i.part k.part, high i.gigahertz i.station k.station.1, low i.gigahertz i.station k.station.1)
+back i k = rw (number_back i.rate k.rate, number_back i.part k.part, high i.gigahertz i.station k.station.1, low i.gigahertz i.station k.station.1)
 
 items_again : (x : Ramp) → ramp_of (packed x) ≡ items_of x
-items_again x = items_back (items_of x) (holds x)
+items_again x = back (items_of x) (holds x)
 
 pub words_back : (w : List ℕ) → length w ≡ 9 → slice_index w 2 < 2 ^ 32 → slice_index w 3 < 2 ^ 32 → ramp_words (ramp_of w) ≡ w
 unfolding ramp_words ramp_of
@@ -77,13 +77,16 @@ abbrev forming : Forming RampItems Ramp
 forming = record { bad = bad_ramp; made = made; items = items_of; kept = λ x. x.lawful; whole = λ x. refl; exact = λ i e. refl }
 
 pub lawful : (x : Ramp) → bad_ramp (ramp_of (ramp_words (items_of x))) ≡ 0
-lawful x = ap bad_ramp (items_again x) ∙ x.lawful
+lawful x = ap bad_ramp (back (items_of x) (holds x)) ∙ x.lawful
 
-pub back : (x : Ramp) → unpacked (packed x) ≡ Some x
-back x = forms forming x (ramp_of (packed x)) (items_again x)
+same : (x y : Ramp) → items_of x ≡ items_of y → x ≡ y
+same = same_record forming
 
-pub apart : (x y : Ramp) → packed x ≡ packed y → x ≡ y
-apart = apart_by packed unpacked back
+pub read_back : (x : Ramp) → unpacked (packed x) ≡ Some x
+read_back x = forms forming x (ramp_of (packed x)) (items_again x)
+
+pub apart : (x y : Ramp) → ramp_words (items_of x) ≡ ramp_words (items_of y) → x ≡ y
+apart = apart_by packed unpacked read_back
 
 pub given : (w : List ℕ) (x : Ramp) → length w ≡ 9 → ((k : ℕ) → slice_index w k < 2 ^ 32) → unpacked w ≡ Some x → packed x ≡ w
 given w x n h e = ap ramp_words (formed_items forming x (ramp_of w) e) ∙ words_back w n (h 2) (h 3)

@@ -1,8 +1,8 @@
 //! How lawful labels are made, and how they lie in a packet.
 ghost use Rattle.std.specs.Prelude.{◌≡◌, ◌<◌, MatchResult};
 ghost use Rattle.record.specs.declared.fault.RecordFault.TheVariants.{Forbidden};
-ghost use Rattle.label.specs.LabelRules.{bad_label};
-ghost use Rattle.label.specs.Labels.{items_of, packed, unpacked, bad};
+ghost use Rattle.label.specs.LabelRules.{bad_label, label_words, label_of};
+ghost use Rattle.label.specs.Labels.{items_of, unpacked};
 ghost use Rattle.label.specs.LabelLaws;
 ghost use Rattle.label.specs.LabelLaws.{nine_words};
 
@@ -63,17 +63,17 @@ impl Label {
 }
 
 impl Packed for Label {
-    ghost packed = { packed };
+    ghost packed = { λ x. label_words (items_of x) };
 
     ghost unpacked = { unpacked };
 
-    ghost bad = { bad };
+    ghost bad = { λ w. bad_label (label_of w) };
 
     ghost lawful = { LabelLaws.lawful };
 
     ghost apart = { LabelLaws.apart };
 
-    ghost back = { LabelLaws.back };
+    ghost back = { LabelLaws.read_back };
 
     ghost given = { LabelLaws.given };
 

@@ -1,9 +1,10 @@
 //! An orbit record as nine words, and as one of the kinds of record.
-ghost use Rattle.std.specs.Prelude.{◌≡◌, ◌^◌, ◌<◌};
+ghost use Rattle.std.specs.Prelude.{◌≡◌, ◌+◌, ◌*◌, ◌^◌, ◌<◌};
 ghost use Rattle.std.specs.Int.Signed.{mag};
 ghost use Rattle.packet.specs.Fields.{join, Fill};
-ghost use Rattle.orbit.specs.OrbitWords.{W2, W5, W67, W89, items2, items5, items67, items89, of20, to20, orbit_of};
-ghost use Rattle.orbit.specs.Orbits.{items_of, packed, unpacked, bad, foreign_orbit, foreign, instant};
+ghost use Rattle.orbit.specs.OrbitRules.{bad_orbit};
+ghost use Rattle.orbit.specs.OrbitWords.{W2, W5, W67, W89, items2, items5, items67, items89, of20, to20, orbit_words, orbit_of};
+ghost use Rattle.orbit.specs.Orbits.{items_of, unpacked, foreign_orbit, foreign, instant};
 ghost use Rattle.orbit.specs.OrbitKindLaws;
 ghost use Rattle.orbit.specs.OrbitKindLaws.{nine_words};
 
@@ -126,17 +127,17 @@ fn foreign_target(items: &OrbitItems, owner: u64) -> usize
 }
 
 impl Packed for Orbit {
-    ghost packed = { packed };
+    ghost packed = { λ x. orbit_words (items_of x) };
 
     ghost unpacked = { unpacked };
 
-    ghost bad = { bad };
+    ghost bad = { λ w. bad_orbit (orbit_of w) };
 
     ghost lawful = { OrbitKindLaws.lawful };
 
     ghost apart = { OrbitKindLaws.apart };
 
-    ghost back = { OrbitKindLaws.back };
+    ghost back = { OrbitKindLaws.read_back };
 
     ghost given = { OrbitKindLaws.given };
 
@@ -181,7 +182,7 @@ impl RecordKind for Orbit {
 
     ghost foreign = { foreign };
 
-    ghost instant = { instant };
+    ghost instant = { λ x. x.seconds * 1000000000 + x.millis * 1000000 };
 
     ghost until = { instant };
 

@@ -1,8 +1,8 @@
 //! How a clock record is made, and how it lies in nine words.
-ghost use Rattle.std.specs.Prelude.{◌≡◌, ◌<◌, MatchResult};
+ghost use Rattle.std.specs.Prelude.{◌≡◌, ◌+◌, ◌*◌, ◌<◌, MatchResult};
 ghost use Rattle.record.specs.declared.fault.RecordFault.TheVariants.{Forbidden};
-ghost use Rattle.station.specs.ClockRules.{bad_clock, clock_of};
-ghost use Rattle.station.specs.ClockWords.{items_of, packed, unpacked, bad, foreign, instant};
+ghost use Rattle.station.specs.ClockRules.{bad_clock, clock_words, clock_of};
+ghost use Rattle.station.specs.ClockWords.{items_of, unpacked, foreign, instant};
 ghost use Rattle.station.specs.ClockLaws;
 ghost use Rattle.station.specs.ClockLaws.{nine_words};
 
@@ -108,17 +108,17 @@ fn items_of(words: &[u32; 9]) -> ClockItems
 }
 
 impl Packed for Clock {
-    ghost packed = { packed };
+    ghost packed = { λ x. clock_words (items_of x) };
 
     ghost unpacked = { unpacked };
 
-    ghost bad = { bad };
+    ghost bad = { λ w. bad_clock (clock_of w) };
 
     ghost lawful = { ClockLaws.lawful };
 
     ghost apart = { ClockLaws.apart };
 
-    ghost back = { ClockLaws.back };
+    ghost back = { ClockLaws.read_back };
 
     ghost given = { ClockLaws.given };
 
@@ -161,7 +161,7 @@ impl RecordKind for Clock {
 
     ghost foreign = { foreign };
 
-    ghost instant = { instant };
+    ghost instant = { λ x. x.seconds * 1000000000 + x.fraction };
 
     ghost until = { instant };
 

@@ -1,8 +1,8 @@
 //! How a ramp record is made, and how it lies in nine words.
-ghost use Rattle.std.specs.Prelude.{◌≡◌, ◌<◌, MatchResult};
+ghost use Rattle.std.specs.Prelude.{◌≡◌, ◌+◌, ◌*◌, ◌<◌, MatchResult};
 ghost use Rattle.record.specs.declared.fault.RecordFault.TheVariants.{Forbidden};
-ghost use Rattle.station.specs.RampRules.{ended, bad_ramp, ramp_of};
-ghost use Rattle.station.specs.RampWords.{items_of, packed, unpacked, bad, foreign, instant, until};
+ghost use Rattle.station.specs.RampRules.{ended, bad_ramp, ramp_words, ramp_of};
+ghost use Rattle.station.specs.RampWords.{items_of, unpacked, foreign, until};
 ghost use Rattle.station.specs.RampLaws;
 ghost use Rattle.station.specs.RampLaws.{nine_words};
 
@@ -121,17 +121,17 @@ fn items_of(words: &[u32; 9]) -> RampItems
 }
 
 impl Packed for Ramp {
-    ghost packed = { packed };
+    ghost packed = { λ x. ramp_words (items_of x) };
 
     ghost unpacked = { unpacked };
 
-    ghost bad = { bad };
+    ghost bad = { λ w. bad_ramp (ramp_of w) };
 
     ghost lawful = { RampLaws.lawful };
 
     ghost apart = { RampLaws.apart };
 
-    ghost back = { RampLaws.back };
+    ghost back = { RampLaws.read_back };
 
     ghost given = { RampLaws.given };
 
@@ -174,7 +174,7 @@ impl RecordKind for Ramp {
 
     ghost foreign = { foreign };
 
-    ghost instant = { instant };
+    ghost instant = { λ x. x.seconds * 1000000000 + x.fraction };
 
     ghost until = { until };
 
