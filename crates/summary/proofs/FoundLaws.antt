@@ -10,7 +10,7 @@ use Rattle.record.specs.Kinds.{judged, plain}
 use Rattle.record.proofs.Data.{no_header}
 use Rattle.orbit.specs.declared.orbit.Orbit.{Orbit}
 use Rattle.orbit.specs.Orbits.{packed, unpacked, bad}
-use Rattle.orbit.specs.OrbitKindLaws.{back, headless, nine_words, narrow}
+use Rattle.orbit.specs.OrbitKindLaws.{read_back, headless, nine_words, narrow}
 use Rattle.summary.specs.Found.{orbit_in, orbit_at, before, orbits_in}
 
 before_push : (o : Option Orbit) (xs ys : List Orbit) → before o (xs ++ ys) ≡ before o xs ++ ys
@@ -92,7 +92,7 @@ one_back : (x : Orbit) → orbit_in (holds (bytes_of (packed x))) ≡ Some x
 one_back x =
     cond-false _ _ _ (no_header (packed x) (nine_words x) (narrow x) (λ e _. headless x e))
     ∙ ap unpacked (words_back (packed x) (bytes_of (packed x)) (nine_words x) (narrow x) refl)
-    ∙ back x
+    ∙ read_back x
 
 pub orbits_back : (xs : List Orbit) → orbits_in (map (λ x. holds (bytes_of (packed x))) xs) ≡ xs
 unfolding orbits_in
