@@ -2,7 +2,7 @@
 .PHONY: demo test bench
 
 demo:
-	rt check odfcopy odfpick odflist > /dev/null
+	tools/build
 	target/bin/odfcopy 4800 crates/odfcopy/data/delivery.4800 disk target/delivery.disk
 	target/bin/odfcopy disk target/delivery.disk 1200 target/delivery.1200
 	target/bin/odfpick 1200 orbit 5 < target/delivery.1200
@@ -12,6 +12,6 @@ test:
 	.ci/run
 
 bench:
-	rt staticlib capi > /dev/null
+	tools/build
 	gcc -Wall -O2 -o target/bench bench/bench.c bench/reader.c target/staticlib/libcapi.a
 	target/bench

@@ -1,6 +1,6 @@
 /* Reading orbit data files on disk images from C.
  *
- * Link target/staticlib/libcapi.a, which `rt staticlib capi` writes. A call works in the caller's memory alone: it
+ * Link target/staticlib/libcapi.a, which `tools/build` writes. A call works in the caller's memory alone: it
  * allocates nothing and keeps nothing. `image` points to `length` bytes and is not null, even where there are none; the
  * structs and the image do not overlap.
  *

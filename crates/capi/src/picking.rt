@@ -34,7 +34,12 @@ pub(crate) fn tell(e: &FileFault, fault: &mut OdfFault) -> u32
 }
 
 /// Picks a record of any kind.
-fn pick_plain<K: Plain>(image: &[u8], k: usize, found: &mut K::Numbers, fault: &mut OdfFault) -> u32
+fn pick_plain<K: Plain + Drop>(
+    image: &[u8],
+    k: usize,
+    found: &mut K::Numbers,
+    fault: &mut OdfFault,
+) -> u32
     ensures { Leaves K.Plain.plain (Picked K.Packed.packed K.Packed.bad k (disk_cell image.now k)) result found.old found.new fault.old fault.new }
 {
     match pick::<K, Image<Disk>>(&Image::<Disk>::new(image), k) {

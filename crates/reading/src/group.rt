@@ -13,7 +13,7 @@ use packet::is_header_like;
 use record::kind::{RecordKind, unpack_owned};
 
 /// How many records of kind `K` stand from packet `first` on, up to the next header-like packet.
-fn walk_records<K: RecordKind, C: Carrier>(
+fn walk_records<K: RecordKind + Drop, C: Carrier>(
     carrier: &C,
     first: usize,
     owner: u64,
@@ -50,7 +50,7 @@ fn owner_of(owner: Option<u64>, secondary: u32) -> u64
 }
 
 /// The group of kind `K` whose header is packet `at`.
-pub(crate) fn walk_group<K: RecordKind, C: Carrier>(
+pub(crate) fn walk_group<K: RecordKind + Drop, C: Carrier>(
     carrier: &C,
     at: usize,
     bounds: Bounds,

@@ -40,7 +40,7 @@ pub trait Packed: Sized {
 }
 
 /// A kind of record. Generic code reads the constants and the laws, never a kind's insides.
-pub trait RecordKind: Packed + Drop {
+pub trait RecordKind: Packed {
     /// The primary key of the kind's group.
     const KEY: u32;
     /// The least number of records that a group of the kind has.
@@ -108,7 +108,7 @@ fn lower_item(one: usize, other: usize) -> usize
 }
 
 /// The record of this owner of which this is the packet; refused at the lowest bad item, the owner's among them.
-pub fn unpack_owned<K: RecordKind>(
+pub fn unpack_owned<K: RecordKind + Drop>(
     packet: &Packet,
     number: usize,
     owner: u64,
