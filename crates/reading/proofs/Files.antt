@@ -91,18 +91,18 @@ opening_is cs label w e =
     h0 ∙ ap (λ v. holds (header_packet (pos 101) 0 1 0) ∷ v) e1
 
 -- what was read stands in the cells, and is lawful
-pub record Stands (rowsFor : List Orbit → List (List ℕ)) (cs : List Cell) (c : Contents) : Type 0 where
+pub record Stands (rows_for : List Orbit → List (List ℕ)) (cs : List Cell) (c : Contents) : Type 0 where
   pub left : ℕ
-  pub stand : cs ≡ map holds (packets_with (rowsFor c.orbits) c) ++ replicate left (holds filler)
+  pub stand : cs ≡ map holds (packets_with (rows_for c.orbits) c) ++ replicate left (holds filler)
   pub lawful : Lawful c
 
 abbrev contents : Label → ℕ × List Orbit → Rest → Contents
 contents label g r = record { label = label; summary = r.summary; orbits = g.1; ramps = r.ramps; clocks = r.clocks }
 
-stands : (rowsFor : List Orbit → List (List ℕ)) (cs : List Cell) (label : Label) (g : ℕ × List Orbit) (r : Rest) → cs ≡ holds (header_packet (pos 101) 0 1 0) ∷ holds (bytes_of (labels.packed label)) ∷ holds (header_packet (pos 107) 0 1 2) ∷ holds identifier ∷ drop 4 cs → Grouped orbit_kind (pos 109) 0 none (Some label.spacecraft) 4 (drop 4 cs) g.0 g.1 → Behind Orbits (rowsFor g.1) (5 + length g.1) (drop (5 + length g.1) cs) r → Stands rowsFor cs (contents label g r)
-stands rowsFor cs label g r o h b =
+stands : (rows_for : List Orbit → List (List ℕ)) (cs : List Cell) (label : Label) (g : ℕ × List Orbit) (r : Rest) → cs ≡ holds (header_packet (pos 101) 0 1 0) ∷ holds (bytes_of (labels.packed label)) ∷ holds (header_packet (pos 107) 0 1 2) ∷ holds identifier ∷ drop 4 cs → Grouped orbit_kind (pos 109) 0 none (Some label.spacecraft) 4 (drop 4 cs) g.0 g.1 → Behind Orbits (rows_for g.1) (5 + length g.1) (drop (5 + length g.1) cs) r → Stands rows_for cs (contents label g r)
+stands rows_for cs label g r o h b =
     let xs = g.1 in
-    let rest = following r.ramps r.clocks r.summary (rowsFor xs) (5 + length xs) in
+    let rest = following r.ramps r.clocks r.summary (rows_for xs) (5 + length xs) in
     let z = zero_key g.0 h.within in
     let head = header_packet (pos 109) 0 1 4 in
     let past : drop (suc (length xs)) (drop 4 cs) ≡ drop (5 + length xs) cs = (let e : 4 + suc (length xs) ≡ 5 + length xs = omega arith in drop-drop (suc (length xs)) 4 cs ∙ ap (λ v. drop v cs) e) in
@@ -116,16 +116,16 @@ stands rowsFor cs label g r o h b =
       lawful = record { orbits = h.order; ramps = b.lawful.0; clocks = b.lawful.1 };
     }
 
-pub reads_is : (rowsFor : List Orbit → List (List ℕ)) (cs : List Cell) (c : Contents) → Whole cs → reads_by rowsFor cs ≡ Ok c → Stands rowsFor cs c
-reads_is rowsFor cs c w e =
+pub reads_is : (rows_for : List Orbit → List (List ℕ)) (cs : List Cell) (c : Contents) → Whole cs → reads_by rows_for cs ≡ Ok c → Stands rows_for cs c
+reads_is rows_for cs c w e =
     let a = then_ok (opening cs) _ c e in
     let label = a.0 in
     let b = then_ok (group orbit_kind 109 0 none (Some label.spacecraft) 4 (drop 4 cs)) _ c a.1.1 in
     let g = b.0 in
-    let d = seen_ok (contents label g) (onward (length cs) Orbits (rowsFor g.1) (5 + length g.1) (drop (5 + length g.1) cs)) c b.1.1 in
+    let d = seen_ok (contents label g) (onward (length cs) Orbits (rows_for g.1) (5 + length g.1) (drop (5 + length g.1) cs)) c b.1.1 in
     let h = group_is orbit_kind orbits_lawful (pos 109) 109 0 none (Some label.spacecraft) 4 (drop 4 cs) g orbit_key (whole_drop cs 4 w) b.1.0 in
-    let r = onward_is ramps_lawful clocks_lawful (length cs) Orbits (rowsFor g.1) (5 + length g.1) (drop (5 + length g.1) cs) d.0 (whole_drop cs (5 + length g.1) w) d.1.0 in
-    subst (Stands rowsFor cs) d.1.1 (stands rowsFor cs label g d.0 (opening_is cs label w a.1.0) h r)
+    let r = onward_is ramps_lawful clocks_lawful (length cs) Orbits (rows_for g.1) (5 + length g.1) (drop (5 + length g.1) cs) d.0 (whole_drop cs (5 + length g.1) w) d.1.0 in
+    subst (Stands rows_for cs) d.1.1 (stands rows_for cs label g d.0 (opening_is cs label w a.1.0) h r)
 
 then_at : {A B E : Type 0} (r : Result A E) (f : A → Result B E) (x : A) → r ≡ Ok x → and_then r f ≡ f x
 then_at r f x e = ap (λ v. and_then v f) e
@@ -165,10 +165,10 @@ pub length_laid : (ps : List (List ℕ)) (m : ℕ) → length (map holds ps ++ r
 length_laid ps m = length-append (map holds ps) (replicate m (holds filler)) ∙ (λ i. length-holds ps i + length-replicate m (holds filler) i)
 
 -- the packets of lawful contents, and filler, are read as the contents
-pub reads_back : (rowsFor : List Orbit → List (List ℕ)) (c : Contents) (m : ℕ) → Lawful c → length (packets_with (rowsFor c.orbits) c) ≤ 2 ^ 32 → reads_by rowsFor (map holds (packets_with (rowsFor c.orbits) c) ++ replicate m (holds filler)) ≡ Ok c
-reads_back rowsFor c m l n =
+pub reads_back : (rows_for : List Orbit → List (List ℕ)) (c : Contents) (m : ℕ) → Lawful c → length (packets_with (rows_for c.orbits) c) ≤ 2 ^ 32 → reads_by rows_for (map holds (packets_with (rows_for c.orbits) c) ++ replicate m (holds filler)) ≡ Ok c
+reads_back rows_for c m l n =
     let xs = c.orbits in
-    let rows = rowsFor xs in
+    let rows = rows_for xs in
     let rest = replicate m (holds filler) in
     let owner = Some c.label.spacecraft in
     let fs = following c.ramps c.clocks c.summary rows (5 + length xs) in

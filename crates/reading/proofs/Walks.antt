@@ -1,5 +1,5 @@
 -- The cells of a carrier as they are walked.
-use Rattle.std.proofs.Common.{◌≡◌, ℕ, zero, suc, ◌+◌, ◌<◌, ◌≤◌, Bool, true, false, cond, ltb, List, [], ◌∷◌, length, drop, Some, Ok, Err, Decides, Option, Result, sym, refl, ap, ◌∙◌, add-one, arith, length-drop, drop_of_length-le}
+use Rattle.std.proofs.Common.{◌≡◌, ℕ, zero, suc, ◌+◌, ◌<◌, ◌≤◌, true, false, cond, ltb, List, [], ◌∷◌, length, drop, Some, Ok, Err, Option, Result, sym, refl, ap, ◌∙◌, add-one, arith, length-drop, drop_of_length-le}
 use Rattle.std.specs.Str.{bytes_eq}
 use Rattle.std.proofs.lemmas.Bool.{cond-true, cond-false, lt-ltb, le-ltb}
 use Rattle.packet.specs.Packets.{filler, header_like, word}
@@ -39,11 +39,6 @@ faulty (c ∷ cs) (suc k) j f l h = faulty cs k j f (omega arith) h
 -- the cell that was read, and those behind it
 pub next_cell : (cs : List Cell) (k : ℕ) (p : List ℕ) → packet_at k (drop k cs) ≡ Ok p → drop k cs ≡ holds p ∷ drop (suc k) cs
 next_cell cs k p h = packet_ok k (drop k cs) p h ∙ ap (λ v. holds p ∷ v) (drop_one_more k cs)
-
-pub agree : {P : Type 0} (a b : Bool) → Decides a P → Decides b P → a ≡ b
-agree true b x y = sym (y.1 (x.0 refl))
-agree false true x y = x.1 (y.0 refl)
-agree false false x y = refl
 
 -- a cell that there is
 pub some_left : (cs : List Cell) (k : ℕ) → k < length cs → 0 < length (drop k cs)

@@ -205,8 +205,8 @@ opening cs =
 
 -- the contents of a row of cells, whose summary has to have the rows of its orbit records
 abbrev pub reads_by : (List Orbit → List (List ℕ)) → List Cell → Result Contents FileFault
-reads_by rowsFor cs =
+reads_by rows_for cs =
     and_then (opening cs) (λ label.
     and_then (group orbit_kind 109 0 none (Some label.spacecraft) 4 (drop 4 cs)) (λ g.
     seen (λ r. record { label = label; summary = r.summary; orbits = g.1; ramps = r.ramps; clocks = r.clocks })
-    (onward (length cs) Orbits (rowsFor g.1) (5 + length g.1) (drop (5 + length g.1) cs))))
+    (onward (length cs) Orbits (rows_for g.1) (5 + length g.1) (drop (5 + length g.1) cs))))
