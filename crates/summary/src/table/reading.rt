@@ -19,7 +19,7 @@ impl<K: Key> Table<K> {
     pub fn row(&self, i: usize) -> Option<Row<K>>
         ensures { result ≡ slice_get (rows_in self.now) i }
     {
-        if i < self.len {
+        if i < self.count() {
             Some(self.rows[i])
         } else {
             None
@@ -30,7 +30,7 @@ impl<K: Key> Table<K> {
     pub fn is_full(&self) -> bool
         ensures { result ≡ (length (rows_in self.now) == 64) }
     {
-        self.len == ROOM
+        self.count() == ROOM
     }
 
     /// The key of the last row of a full table; the next pass looks above it.
