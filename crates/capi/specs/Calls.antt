@@ -2,11 +2,16 @@
 use Rattle.std.specs.Prelude.{◌≡◌, ℕ, List, Some, Ok, Err, Option, Result, MatchResult, ◌≢◌}
 use Rattle.packet.specs.Packets.{bytes_of}
 use Rattle.carrier.specs.Cells.{Cell, holds, cell_at}
+use Rattle.carrier.specs.declared.fault.Refusal.{Refusal}
 use Rattle.makes.specs.Shapes.{cells_of, disk}
 use Rattle.odf.specs.Picking.{pick_fault}
 use Rattle.odf.specs.Refusals.{number, layer, packet, item, byte}
 use Rattle.odf.specs.declared.fault.FileFault.{FileFault}
 use Rattle.capi.specs.declared.numbers.OdfFault.{OdfFault}
+
+-- what a refusal tells, as plain numbers
+abbrev pub plain_refusal : Refusal → OdfFault
+plain_refusal e = record { number = e.number; layer = e.layer; packet = e.packet; item = e.item; byte = e.byte }
 
 -- a fault as plain numbers
 abbrev pub told : FileFault → OdfFault
@@ -38,3 +43,7 @@ disk_cell m k = cell_at (cells_of disk m) k
 -- the answer is what this cell, with number k, has of a kind of record: the record whose packet it holds; where it holds none, why
 abbrev pub Picked : {A : Type 0} → (A → List ℕ) → (List ℕ → ℕ) → ℕ → Option Cell → Result A FileFault → Type 0
 Picked {A} packed bad k cell a = MatchResult a (λ x. cell ≡ Some (holds (bytes_of (packed x)))) (λ e. (e ≡ pick_fault bad k cell) × ((x : A) → cell ≢ Some (holds (bytes_of (packed x)))))
+
+-- the same where the record after the call stands in a relation to what was found
+abbrev pub LeavesBy : {A N : Type 0} → (A → N → Type 0) → (Result A FileFault → Type 0) → ℕ → N → N → OdfFault → OdfFault → Type 0
+LeavesBy {A} gives P r old new was now' = (a : Result A FileFault) × P a × (r ≡ call_result a) × MatchResult a (λ x. gives x new) (λ _. new ≡ old) × (now' ≡ faulted was a)

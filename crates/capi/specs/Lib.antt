@@ -1,3 +1,4 @@
 pub mod Calls
 pub mod Records
 pub mod Reports
+pub mod Small

@@ -4,50 +4,61 @@ ghost use Rattle.odf.specs.Refusals.{number};
 ghost use Rattle.orbit.specs.Orbits.{orbit_kind, items_of as orbit_items_of};
 ghost use Rattle.station.specs.ClockWords.{clock_kind, items_of as clock_items_of};
 ghost use Rattle.station.specs.RampWords.{ramp_kind, items_of as ramp_items_of};
-ghost use Rattle.capi.specs.Calls.{Leaves, Picked, disk_cell, told};
+ghost use Rattle.record.specs.Kinds.{packed_by, bad_by};
+ghost use Rattle.capi.specs.Calls.{Leaves, LeavesBy, Picked, disk_cell, plain_refusal, told};
 ghost use Rattle.capi.specs.Records.{orbit_numbers, ramp_numbers, clock_numbers};
 
 use crate::numbers::{OdfClock, OdfFault, OdfOrbit, OdfRamp};
-use crate::plain::Plain;
+use carrier::fault::Refusal;
 use makes::image::Image;
 use makes::layout::Disk;
 use odf::fault::FileFault;
 use odf::pick::pick;
-use orbit::orbit::Orbit;
-use station::clock::Clock;
-use station::ramp::Ramp;
+use orbit::items::OrbitItems;
+use record::kind::RecordKind;
+use record::lawful::Lawful;
+use station::clock::items::ClockItems;
+use station::ramp::items::RampItems;
+
+impl From<Refusal> for OdfFault {
+    ghost from_gives = { λ refusal r. r ≡ plain_refusal refusal };
+
+    fn from(refusal: Refusal) -> OdfFault {
+        OdfFault {
+            number: refusal.number as u64,
+            layer: refusal.layer as u64,
+            packet: refusal.packet as u64,
+            item: refusal.item as u64,
+            byte: refusal.byte as u64,
+        }
+    }
+}
 
 /// Tells a fault; its number is the result.
-pub(crate) fn tell(e: &FileFault, fault: &mut OdfFault) -> u32
-    ensures number { result ≡ number e.now }
-    ensures told { fault.new ≡ told e.now }
+pub(crate) fn tell(e: FileFault, fault: &mut OdfFault) -> u32
+    ensures number { result ≡ number e }
+    ensures told { fault.new ≡ told e }
 {
-    let refusal = e.refusal();
-    *fault = OdfFault {
-        number: refusal.number as u64,
-        layer: refusal.layer as u64,
-        packet: refusal.packet as u64,
-        item: refusal.item as u64,
-        byte: refusal.byte as u64,
-    };
+    let refusal = Refusal::from(e);
+    *fault = OdfFault::from(refusal);
     refusal.number as u32
 }
 
 /// Picks a record of any kind.
-fn pick_plain<K: Plain + Drop>(
+fn pick_plain<K: RecordKind, N: From<Lawful<K>> + Drop>(
     image: &[u8],
     k: usize,
-    found: &mut K::Numbers,
+    found: &mut N,
     fault: &mut OdfFault,
 ) -> u32
-    ensures { Leaves K.Plain.plain (Picked K.Packed.packed K.Packed.bad k (disk_cell image.now k)) result found.old found.new fault.old fault.new }
+    ensures { LeavesBy N.From.from_gives (Picked (packed_by K.Items K.Packed.own) (bad_by K.Items K.Packed.own) k (disk_cell image.now k)) result found.old found.new fault.old fault.new }
 {
-    match pick::<K, Image<Disk>>(&Image::<Disk>::new(image), k) {
+    match pick::<K, _>(&Image::new(Disk, image), k) {
         Ok(x) => {
-            *found = x.numbers();
+            *found = N::from(x);
             0
         }
-        Err(e) => tell(&e, fault),
+        Err(e) => tell(e, fault),
     }
 }
 
@@ -62,7 +73,7 @@ pub extern "C" fn odf_pick_orbit(
 ) -> u32
     ensures { Leaves (λ x. orbit_numbers (orbit_items_of x)) (Picked orbit_kind.packed orbit_kind.bad k (disk_cell image.now k)) result found.old found.new fault.old fault.new }
 {
-    pick_plain::<Orbit>(image, k, found, fault)
+    pick_plain::<OrbitItems, _>(image, k, found, fault)
 }
 
 /// Reads cell `k` of a disk image as a ramp, as `odf_pick_orbit` does.
@@ -75,7 +86,7 @@ pub extern "C" fn odf_pick_ramp(
 ) -> u32
     ensures { Leaves (λ x. ramp_numbers (ramp_items_of x)) (Picked ramp_kind.packed ramp_kind.bad k (disk_cell image.now k)) result found.old found.new fault.old fault.new }
 {
-    pick_plain::<Ramp>(image, k, found, fault)
+    pick_plain::<RampItems, _>(image, k, found, fault)
 }
 
 /// Reads cell `k` of a disk image as a clock offset, as `odf_pick_orbit` does.
@@ -88,5 +99,5 @@ pub extern "C" fn odf_pick_clock(
 ) -> u32
     ensures { Leaves (λ x. clock_numbers (clock_items_of x)) (Picked clock_kind.packed clock_kind.bad k (disk_cell image.now k)) result found.old found.new fault.old fault.new }
 {
-    pick_plain::<Clock>(image, k, found, fault)
+    pick_plain::<ClockItems, _>(image, k, found, fault)
 }

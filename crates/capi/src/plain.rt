@@ -1,62 +1,59 @@
 //! The items of a record as plain numbers.
-ghost use Rattle.std.specs.Prelude.{◌≡◌};
+ghost use Rattle.std.specs.Prelude.{◌≡◌, ℕ, List};
 ghost use Rattle.orbit.specs.Orbits.{items_of as orbit_items_of};
 ghost use Rattle.station.specs.ClockWords.{items_of as clock_items_of};
 ghost use Rattle.station.specs.RampWords.{items_of as ramp_items_of};
 ghost use Rattle.capi.specs.Records.{Small, orbit_numbers, orbit_naturals, ramp_numbers, ramp_naturals, clock_numbers, clock_naturals};
+ghost use Rattle.capi.specs.Small.{small_orbit, small_ramp, small_clock};
 
 use crate::numbers::{OdfClock, OdfOrbit, OdfRamp};
 use orbit::items::OrbitItems;
 use orbit::orbit::Orbit;
-use record::kind::RecordKind;
+use record::lawful::{Items, Lawful};
 use station::clock::Clock;
 use station::clock::items::ClockItems;
 use station::ramp::Ramp;
 use station::ramp::items::RampItems;
 
-/// A kind of record whose items a C program gets as plain numbers.
-pub trait Plain: RecordKind {
-    /// The items.
-    type Numbers: Drop;
+/// Items whose unsigned numbers are small in a record.
+trait Plain: Items {
+    // The unsigned items.
+    ghost naturals: { Self → List ℕ };
 
-    ghost plain: { Self → Self.Numbers };
-
-    /// The items of a record.
-    fn numbers(&self) -> Self::Numbers
-        ensures { result ≡ plain self.now };
+    ghost small: { (i : Self) → Self.unfit i ≡ 0 → Small (naturals i) };
 }
 
-/// The items of an orbit record; no unsigned one is large.
-fn orbit_items(from: &Orbit) -> OrbitItems
-    ensures same { result ≡ orbit_items_of from.now }
-    ensures small { Small (orbit_naturals result) }
+impl Plain for OrbitItems {
+    ghost naturals = { orbit_naturals };
+
+    ghost small = { small_orbit };
+}
+
+impl Plain for RampItems {
+    ghost naturals = { ramp_naturals };
+
+    ghost small = { small_ramp };
+}
+
+impl Plain for ClockItems {
+    ghost naturals = { clock_naturals };
+
+    ghost small = { small_clock };
+}
+
+/// The items of a record; no unsigned one is large.
+fn small_items<I: Plain>(from: &Lawful<I>) -> I
+    ensures same { result ≡ from.now.items }
+    ensures small { Small (I.naturals result) }
 {
     from.items()
 }
 
-/// The items of a ramp; no unsigned one is large.
-fn ramp_items(from: &Ramp) -> RampItems
-    ensures same { result ≡ ramp_items_of from.now }
-    ensures small { Small (ramp_naturals result) }
-{
-    from.items()
-}
+impl From<Orbit> for OdfOrbit {
+    ghost from_gives = { λ x r. r ≡ orbit_numbers (orbit_items_of x) };
 
-/// The items of a clock offset; no unsigned one is large.
-fn clock_items(from: &Clock) -> ClockItems
-    ensures same { result ≡ clock_items_of from.now }
-    ensures small { Small (clock_naturals result) }
-{
-    from.items()
-}
-
-impl Plain for Orbit {
-    type Numbers = OdfOrbit;
-
-    ghost plain = { λ x. orbit_numbers (orbit_items_of x) };
-
-    fn numbers(&self) -> OdfOrbit {
-        let i = orbit_items(self);
+    fn from(orbit: Orbit) -> OdfOrbit {
+        let i = small_items(&orbit);
         OdfOrbit {
             seconds: i.seconds as i64,
             millis: i.millis as i64,
@@ -84,13 +81,11 @@ impl Plain for Orbit {
     }
 }
 
-impl Plain for Ramp {
-    type Numbers = OdfRamp;
+impl From<Ramp> for OdfRamp {
+    ghost from_gives = { λ x r. r ≡ ramp_numbers (ramp_items_of x) };
 
-    ghost plain = { λ x. ramp_numbers (ramp_items_of x) };
-
-    fn numbers(&self) -> OdfRamp {
-        let i = ramp_items(self);
+    fn from(ramp: Ramp) -> OdfRamp {
+        let i = small_items(&ramp);
         OdfRamp {
             seconds: i.seconds as i64,
             fraction: i.fraction as i64,
@@ -106,13 +101,11 @@ impl Plain for Ramp {
     }
 }
 
-impl Plain for Clock {
-    type Numbers = OdfClock;
+impl From<Clock> for OdfClock {
+    ghost from_gives = { λ x r. r ≡ clock_numbers (clock_items_of x) };
 
-    ghost plain = { λ x. clock_numbers (clock_items_of x) };
-
-    fn numbers(&self) -> OdfClock {
-        let i = clock_items(self);
+    fn from(clock: Clock) -> OdfClock {
+        let i = small_items(&clock);
         OdfClock {
             seconds: i.seconds as i64,
             fraction: i.fraction as i64,

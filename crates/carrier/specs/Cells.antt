@@ -18,11 +18,6 @@ abbrev pub Whole : List Cell → Type 0
 Whole [] = Unit {0}
 Whole (c ∷ cs) = Proper c × Whole cs
 
--- what a writing carrier keeps over each call: the ghost name of the memory lent to it, and that memory but for its cells
-pub data Kept : Type 0 where
-  named : ℕ → Kept
-  outside : List ℕ → Kept
-
 -- cell k of a row, if there is one
 abbrev pub cell_at : List Cell → ℕ → Option Cell
 cell_at [] k = None

@@ -2,6 +2,7 @@
 ghost use Rattle.std.specs.Prelude.{◌≡◌};
 ghost use Rattle.carrier.specs.Refusals.{refusal_of};
 
+use std::error::Error;
 use std::fmt;
 
 /// A cell that cannot be read or written.
@@ -23,12 +24,11 @@ pub struct Refusal {
     pub byte: usize,
 }
 
-impl CarrierFault {
-    /// The numbers of this fault.
-    pub fn refusal(&self) -> Refusal
-        ensures { result ≡ refusal_of self.now }
-    {
-        match *self {
+impl From<CarrierFault> for Refusal {
+    ghost from_gives = { λ e r. r ≡ refusal_of e };
+
+    fn from(fault: CarrierFault) -> Refusal {
+        match fault {
             CarrierFault::NoSuchCell { cell } => Refusal {
                 number: 11,
                 layer: 1,
@@ -49,14 +49,24 @@ impl CarrierFault {
 
 impl fmt::Display for Refusal {
     fn fmt<W: fmt::Write>(&self, f: &mut fmt::Formatter<W>) -> fmt::Result {
-        let number = self.number;
-        let layer = self.layer;
-        let packet = self.packet;
-        let item = self.item;
-        let byte = self.byte;
+        let Refusal {
+            number,
+            layer,
+            packet,
+            item,
+            byte,
+        } = self;
         write!(
             f,
             "refused {number} layer {layer} packet {packet} item {item} byte {byte}"
         )
     }
 }
+
+impl fmt::Display for CarrierFault {
+    fn fmt<W: fmt::Write>(&self, f: &mut fmt::Formatter<W>) -> fmt::Result {
+        Refusal::from(*self).fmt(f)
+    }
+}
+
+impl Error for CarrierFault {}

@@ -2,7 +2,7 @@
 #![tactic(auto)]
 
 ghost use Rattle.std.specs.Prelude.{◌≡◌, ◌≤◌, List, length};
-ghost use Rattle.carrier.specs.Cells.{Cell, Kept, Whole, cell_at, reply, filled, stored, first_damage};
+ghost use Rattle.carrier.specs.Cells.{Cell, Whole, cell_at, reply, filled, stored, first_damage};
 
 use crate::fault::CarrierFault;
 use packet::Packet;
@@ -27,8 +27,11 @@ pub trait Carrier {
 
 /// A row of cells to read and write.
 pub trait WritingCarrier: Carrier {
-    // What no writing call changes: which memory is lent, and that memory but for its cells.
-    ghost kept: { Self → List Kept };
+    // The type of what no writing call changes; an implementation chooses it.
+    ghost Kept: { Type 0 };
+
+    // What no writing call changes: which memory is lent, how it is laid out, and that memory but for its cells.
+    ghost kept: { Self → Kept };
 
     /// Puts the packet into cell `k`; refused, it leaves every cell.
     fn put(&mut self, k: usize, packet: &Packet) -> Result<(), CarrierFault>

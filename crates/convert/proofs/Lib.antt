@@ -1,3 +1,2 @@
 mod Copies
-mod Lengths
 pub mod Refills

@@ -1,14 +1,14 @@
 -- How many groups there are.
 use Rattle.std.proofs.Common.{◌≡◌, ℕ, zero, suc, ◌+◌, ◌*◌, ◌<◌, Bool, true, false, cond, ltb, List, [], ◌∷◌, length, is_some, refl, arith}
-use Rattle.std.proofs.lemmas.List.{length-append}
+use Rattle.std.proofs.lemmas.List.{length-append, length-map}
 use Rattle.std.proofs.lemmas.Bool.{cond-true, lt-ltb}
-use Rattle.station.specs.declared.ramp.Ramp.{Ramp}
+use Rattle.station.specs.RampWords.{Ramp}
 use Rattle.station.specs.RampWords.{ramp_kind}
-use Rattle.station.specs.declared.clock.Clock.{Clock}
+use Rattle.station.specs.ClockWords.{Clock}
 use Rattle.orbit.specs.Orbits.{orbit_kind}
 use Rattle.reading.specs.Contents.{Contents, Lawful, Stations, packed, following}
 use Rattle.reading.specs.Files.{summary_rows, packets, row_count, report_of}
-use Rattle.reading.proofs.Laying.{length-packed, following_some}
+use Rattle.reading.proofs.Laying.{following_some}
 use Rattle.groups.specs.Groups.{end_rows, clock_rows, ramp_rows, groups_of, group_count}
 
 end_count : (s : Bool) (rows : List (List ℕ)) (k : ℕ) → length (end_rows s (length rows) k) ≡ 1 + cond (is_some (row_count s rows)) 1 0
@@ -35,7 +35,7 @@ stations_few last [] xs s rows k g = following_some [] xs s rows k
 stations_few last (y ∷ gs) xs s rows k g =
     let r = stations_few y.0 gs xs s rows (suc k + length y.1) g.4 in
     let n = length-append (packed ramp_kind y.1) (following gs xs s rows (suc k + length y.1)) in
-    let m = length-packed ramp_kind y.1 in
+    let m : length (packed ramp_kind y.1) ≡ length y.1 = length-map y.1 _ in
     let some = g.2 in
     omega arith
 

@@ -49,7 +49,7 @@ too_few cs report old f h =
     (sym (ap (listed (length old)) f.read ∙ cond-true _ _ _ t), sym (ap (λ r. shown r old) f.read ∙ cond-true _ _ _ t))
 
 refused_by : (r : Result Contents FileFault) (e : FileFault) (n : ℕ) (old : List GroupRow) → Err e ≡ seen report_of r → (Err e ≡ listed n r) × (old ≡ shown r old)
-refused_by (Ok c) e n old h = let z : ◌≡◌ {A = ℕ} 0 1 = cc in absurd (omega arith)
+refused_by (Ok c) e n old h = absurd cc
 refused_by (Err d) e n old h = let q : e ≡ d = cc in (ap Err q, refl)
 
 pub refused : (cs : List Cell) (e : FileFault) (n : ℕ) (old : List GroupRow) → Err e ≡ answer cs → (Err e ≡ listed n (reads cs)) × (old ≡ shown (reads cs) old)

@@ -1,19 +1,19 @@
 -- A walk over packets: a header opens a row, and any other packet is one more of the row before.
 use Rattle.std.proofs.Common.{◌≡◌, ℕ, suc, ◌+◌, ◌≤◌, Bool, true, false, cond, List, [], ◌∷◌, ◌++◌, map, length, ℤ, pos, negsuc, sym, refl, ap, ◌∙◌, inl, inr, append_assoc, arith, lit<}
-use Rattle.std.proofs.lemmas.List.{length-append}
+use Rattle.std.proofs.lemmas.List.{length-append, length-map}
 use Rattle.std.proofs.lemmas.Bool.{cond-true, cond-false, cond_both}
-use Rattle.packet.specs.Packets.{bytes_of, header_like}
+use Rattle.packet.specs.Packets.{byte, bytes_of, header_like}
 use Rattle.record.specs.Kinds.{Kind}
 use Rattle.record.proofs.Data.{no_header}
-use Rattle.orbit.specs.declared.orbit.Orbit.{Orbit}
+use Rattle.orbit.specs.Orbits.{Orbit}
 use Rattle.orbit.specs.Orbits.{orbit_kind}
-use Rattle.station.specs.declared.ramp.Ramp.{Ramp}
+use Rattle.station.specs.RampWords.{Ramp}
 use Rattle.station.specs.RampWords.{ramp_kind}
-use Rattle.station.specs.declared.clock.Clock.{Clock}
+use Rattle.station.specs.ClockWords.{Clock}
 use Rattle.station.specs.ClockWords.{clock_kind}
 use Rattle.label.specs.Headers.{header_words, header_of, header_packet}
 use Rattle.label.specs.Identifiers.{identifier}
-use Rattle.label.specs.declared.label.Label.{Label}
+use Rattle.label.specs.Labels.{Label}
 use Rattle.label.specs.Labels as labels
 use Rattle.label.specs.LabelLaws as label-laws
 use Rattle.summary.specs.declared.summary_key.SummaryKey.{SummaryKey}
@@ -27,7 +27,6 @@ use Rattle.summary.proofs.RowLaws.{first_from, row_headless}
 use Rattle.reading.specs.Contents.{Contents, Lawful, Stations, packed, closing, timing, following}
 use Rattle.reading.specs.Files.{summary_rows, packets}
 use Rattle.reading.proofs.Groups.{Laws, data_like}
-use Rattle.reading.proofs.Laying.{length-packed}
 use Rattle.reading.proofs.Files.{orbits_lawful, ramps_lawful, clocks_lawful}
 use Rattle.groups.specs.declared.GroupRow.{GroupRow}
 use Rattle.groups.specs.Groups.{row_of, end_rows, clock_rows, ramp_rows, groups_of}
@@ -81,31 +80,31 @@ record Opening (p : List ℕ) (key : ℤ) (s : ℕ) : Type 0 where
   second : (header_of p).secondary ≡ s
 
 label-opens : Opening (header_packet (pos 101) 0 1 0) (pos 101) 0
-unfolding header_words header_of bytes_of
+unfolding header_words header_of byte bytes_of
 label-opens = record { like = refl; keyed = refl; second = refl }
 
 identifier-opens : Opening (header_packet (pos 107) 0 1 2) (pos 107) 0
-unfolding header_words header_of bytes_of
+unfolding header_words header_of byte bytes_of
 identifier-opens = record { like = refl; keyed = refl; second = refl }
 
 orbits_open : Opening (header_packet (pos 109) 0 1 4) (pos 109) 0
-unfolding header_words header_of bytes_of
+unfolding header_words header_of byte bytes_of
 orbits_open = record { like = refl; keyed = refl; second = refl }
 
 ramps_open : (s k : ℕ) → s ≤ 1023 → Opening (header_packet (pos 2030) s 1 k) (pos 2030) s
-unfolding header_words header_of bytes_of
+unfolding header_words header_of byte bytes_of
 ramps_open s k h = record { like = refl; keyed = refl; second = omega arith }
 
 clocks_open : (k : ℕ) → Opening (header_packet (pos 2040) 0 1 k) (pos 2040) 0
-unfolding header_words header_of bytes_of
+unfolding header_words header_of byte bytes_of
 clocks_open k = record { like = refl; keyed = refl; second = refl }
 
 summary-opens : (k : ℕ) → Opening (header_packet (pos 105) 0 1 k) (pos 105) 0
-unfolding header_words header_of bytes_of
+unfolding header_words header_of byte bytes_of
 summary-opens k = record { like = refl; keyed = refl; second = refl }
 
 end-opens : (k : ℕ) → Opening (header_packet (negsuc 0) 0 0 k) (negsuc 0) 0
-unfolding header_words header_of bytes_of
+unfolding header_words header_of byte bytes_of
 end-opens k = record { like = refl; keyed = refl; second = refl }
 
 -- a header, its data and what follows
@@ -135,7 +134,7 @@ timing-scanned acc [] s rows k d = closing-scanned acc s rows k d
 timing-scanned acc (x ∷ xs) s rows k d =
     let ys = x ∷ xs in
     let r = row_of (pos 2040) 0 k (length ys) in
-    group-scanned acc _ (pos 2040) 0 k (length ys) (packed clock_kind ys) (closing s rows (suc k + length ys)) (clocks_open k) (length-packed clock_kind ys) (packed_data clock_kind clocks_lawful ys)
+    group-scanned acc _ (pos 2040) 0 k (length ys) (packed clock_kind ys) (closing s rows (suc k + length ys)) (clocks_open k) (length-map ys _) (packed_data clock_kind clocks_lawful ys)
     ∙ closing-scanned (acc ++ r ∷ []) s rows (suc k + length ys) d
     ∙ append_assoc acc (r ∷ []) (end_rows s (length rows) (suc k + length ys))
 
@@ -144,13 +143,13 @@ following-scanned acc last [] xs s rows k d g = timing-scanned acc xs s rows k d
 following-scanned acc last (y ∷ gs) xs s rows k d g =
     let rs = y.1 in
     let r = row_of (pos 2030) y.0 k (length rs) in
-    group-scanned acc _ (pos 2030) y.0 k (length rs) (packed ramp_kind rs) (following gs xs s rows (suc k + length rs)) (ramps_open y.0 k g.1) (length-packed ramp_kind rs) (packed_data ramp_kind ramps_lawful rs)
+    group-scanned acc _ (pos 2030) y.0 k (length rs) (packed ramp_kind rs) (following gs xs s rows (suc k + length rs)) (ramps_open y.0 k g.1) (length-map rs _) (packed_data ramp_kind ramps_lawful rs)
     ∙ following-scanned (acc ++ r ∷ []) y.0 gs xs s rows (suc k + length rs) d g.4
     ∙ append_assoc acc (r ∷ []) (ramp_rows gs (length xs) s (length rows) (suc k + length rs))
 
 -- whether a row of a summary is header-like goes by its key, and the row of one record is not
 row_like : (r : Row SummaryKey) → header_like (row_packet r) ≡ header_like (bytes_of (0 ∷ 0 ∷ 0 ∷ 0 ∷ r.key.downlink ∷ r.key.kind ∷ []))
-unfolding bytes_of
+unfolding byte bytes_of
 row_like r = refl
 
 row_data : (xs : List Orbit) (r : Row SummaryKey) → Among r (rows_of summary_lt summary_of xs) → header_like (row_packet r) ≡ false
@@ -189,7 +188,7 @@ packets-scanned c l =
     let second = header_packet (pos 107) 0 1 2 ∷ identifier ∷ third in
     group-scanned [] _ (pos 101) 0 0 1 (bytes_of (labels.packed c.label) ∷ []) second label-opens refl (label_data c.label, tt)
     ∙ group-scanned (r0 ∷ []) _ (pos 107) 0 2 1 (identifier ∷ []) third identifier-opens refl (identifier_data, tt)
-    ∙ group-scanned (r0 ∷ r1 ∷ []) _ (pos 109) 0 4 (length xs) (packed orbit_kind xs) fs orbits_open (length-packed orbit_kind xs) (packed_data orbit_kind orbits_lawful xs)
+    ∙ group-scanned (r0 ∷ r1 ∷ []) _ (pos 109) 0 4 (length xs) (packed orbit_kind xs) fs orbits_open (length-map xs _) (packed_data orbit_kind orbits_lawful xs)
     ∙ following-scanned (r0 ∷ r1 ∷ r2 ∷ []) 0 c.ramps c.clocks c.summary rows (5 + length xs) (summary_data xs) l.ramps
 
 -- a walk never loses a row

@@ -1,8 +1,11 @@
 -- One turn of the walk, over the caller's rows.
-use Rattle.std.proofs.Common.{◌≡◌, ℕ, zero, suc, ◌+◌, ◌-◌, ◌<◌, ◌≤◌, true, false, List, [], ◌∷◌, ◌++◌, map, length, get_or, take, drop, set, replicate, Some, Ok, Err, sym, refl, ap, ◌∙◌, subst, arith}
-use Rattle.std.proofs.lemmas.List.{length-append, length-set, length-take-le, take-append-drop, take_more, take_more_set, drop_more, drop-set-lt, drop-drop, drop_all}
+use Rattle.std.proofs.Common.{◌≡◌, ℕ, zero, suc, ◌+◌, ◌-◌, ◌<◌, ◌≤◌, true, false, List, [], ◌∷◌, ◌++◌, map, length, get_or, take, drop, set, replicate, Some, Ok, Err, sym, refl, ap, ◌∙◌, arith}
+use Rattle.std.proofs.lemmas.List.{length-append, length-set, length-take-le, take-append-drop, take_more, take_more_set, drop_more, drop-set-lt, drop_all}
 use Rattle.std.proofs.lemmas.Bool.{cond-true, cond-false, le-ltb}
-use Rattle.packet.specs.Packets.{header_like, bytes_of, filler}
+use Rattle.std.specs.List.{All}
+use Rattle.std.proofs.lemmas.List.Elements.{All-nil, All-same, All-push, All-pop, All-weaker}
+use Rattle.std.proofs.lemmas.Grind.{drop_more_same}
+use Rattle.packet.specs.Packets.{byte, header_like, bytes_of, filler}
 use Rattle.carrier.specs.Cells.{Cell, holds, cell_at, reply}
 use Rattle.carrier.specs.declared.fault.CarrierFault.{CarrierFault}
 use Rattle.label.specs.Headers.{header_words}
@@ -12,10 +15,9 @@ use Rattle.groups.specs.declared.GroupRow.{GroupRow}
 use Rattle.groups.specs.Groups.{groups_of, listed, shown, Ready}
 use Rattle.groups.proofs.Scans.{opens, more, grown, step, scanned, grown_last, packets-scanned, scanned_longer}
 
--- each row has fewer packets than were walked
-abbrev pub Below : ℕ → List GroupRow → Type 0
-Below b [] = Unit {0}
-Below b (r ∷ rs) = (r.packets < b) × Below b rs
+-- a row with fewer packets than were walked
+abbrev pub Fewer : ℕ → GroupRow → Type 0
+Fewer k r = r.packets < k
 
 -- before packet k, with n rows written
 pub record Walked (cs : List Cell) (end k n : ℕ) (rows old : List GroupRow) : Type 0 where
@@ -24,7 +26,7 @@ pub record Walked (cs : List Cell) (end k n : ℕ) (rows old : List GroupRow) : 
   pub kept : drop n rows ≡ drop n old
   pub within : n ≤ length rows
   pub some : 0 < k → 0 < n
-  pub below : Below k (take n rows)
+  pub below : All (Fewer k) (take n rows)
 
 -- a cell of a file, up to its end, holds its packet
 row_held : (ps : List (List ℕ)) (ds : List Cell) (k : ℕ) → k < length ps → cell_at (map holds ps ++ ds) k ≡ Some (holds (get_or ps k []))
@@ -56,33 +58,14 @@ walk_start cs end old r = record {
   kept = refl;
   within = omega arith;
   some = λ h. absurd (omega arith);
-  below = tt;
+  below = All-nil (Fewer 0);
 }
-
-below_up : (b : ℕ) (rs : List GroupRow) → Below b rs → Below (b + 1) rs
-below_up b [] h = tt
-below_up b (r ∷ rs) h = let a = h.0 in (omega arith, below_up b rs h.1)
-
-below_push : (b : ℕ) (rs : List GroupRow) (r : GroupRow) → Below b rs → r.packets < b → Below b (rs ++ r ∷ [])
-below_push b [] r h a = (a, tt)
-below_push b (q ∷ rs) r h a = (h.0, below_push b rs r h.1 a)
-
-below_grown : (b : ℕ) (rs : List GroupRow) (r : GroupRow) → Below b (rs ++ r ∷ []) → Below (b + 1) (rs ++ more r ∷ [])
-below_grown b [] r h = let a = h.0 in (omega arith, tt)
-below_grown b (q ∷ rs) r h = let a = h.0 in (omega arith, below_grown b rs r h.1)
-
-below_last : (b : ℕ) (rs : List GroupRow) (r : GroupRow) → Below b (rs ++ r ∷ []) → r.packets < b
-below_last b [] r h = h.0
-below_last b (q ∷ rs) r h = below_last b rs r h.1
 
 -- the next packet in the walk
 scan_more : (acc : List GroupRow) (k : ℕ) (ps : List (List ℕ)) → k < length ps → scanned acc k (drop k ps) ≡ scanned (step acc k (get_or ps k [])) (k + 1) (drop (k + 1) ps)
 scan_more acc k ps h =
     let e : suc k ≡ k + 1 = omega arith in
     ap (scanned acc k) (drop_more ps k [] h) ∙ ap (λ v. scanned (step acc k (get_or ps k [])) v (drop (k + 1) ps)) e
-
-drop_on : (n : ℕ) (xs ys : List GroupRow) → drop n xs ≡ drop n ys → drop (n + 1) xs ≡ drop (n + 1) ys
-drop_on n xs ys e = sym (drop-drop 1 n xs) ∙ ap (drop 1) e ∙ drop-drop 1 n ys
 
 -- a header finds room
 pub header_room : (cs : List Cell) (end k n : ℕ) (rows old : List GroupRow) → length rows ≡ length old → Walked cs end k n rows old → k < end + 1 → (p : List ℕ) → cell_at cs k ≡ Some (holds p) → header_like p ≡ true → n < length rows
@@ -114,15 +97,15 @@ header_turn cs end k n rows old le w h p e t =
     record {
       ready = r;
       rest = ap (λ v. scanned v (k + 1) (drop (k + 1) ps)) (s ∙ sym q) ∙ sym (scan_more acc k ps (omega arith)) ∙ w.rest;
-      kept = drop-set-lt (n + 1) rows n (opens k p) (omega arith) ∙ drop_on n rows old w.kept;
+      kept = drop-set-lt (n + 1) rows n (opens k p) (omega arith) ∙ drop_more_same rows old n w.kept;
       within = omega arith;
       some = λ _. omega arith;
-      below = subst (Below (k + 1)) (sym s) (below_push (k + 1) acc (opens k p) (below_up k acc w.below) (omega arith));
+      below = All-same (Fewer (k + 1)) _ _ s (All-push (Fewer (k + 1)) acc (opens k p) (All-weaker (Fewer k) (Fewer (k + 1)) (λ r h. omega arith) acc w.below) (omega arith));
     }
 
 -- data has a row before it
 first_header : (c : Contents) → header_like (get_or (packets c) 0 []) ≡ true
-unfolding header_words bytes_of
+unfolding header_words byte bytes_of
 first_header c = refl
 
 pub data_some : (cs : List Cell) (end k n : ℕ) (rows old : List GroupRow) → Walked cs end k n rows old → k < end + 1 → (p : List ℕ) → cell_at cs k ≡ Some (holds p) → header_like p ≡ false → 0 < n
@@ -138,7 +121,7 @@ last_row n m rows d e h = ap (λ v. take v rows) e ∙ take_more rows m d (omega
 pub data_few : (cs : List Cell) (end k n : ℕ) (rows old : List GroupRow) (d : GroupRow) → Walked cs end k n rows old → 0 < n → (get_or rows (n - 1) d).packets < k
 data_few cs end k n rows old d w h =
     let s = last_row n (n - 1) rows d (omega arith) w.within in
-    below_last k (take (n - 1) rows) (get_or rows (n - 1) d) (subst (Below k) s w.below)
+    (All-pop (Fewer k) (take n rows) (take (n - 1) rows) (Some (get_or rows (n - 1) d)) s w.below).1
 
 pub data_turn : (cs : List Cell) (end k n : ℕ) (rows old : List GroupRow) (d : GroupRow) → Walked cs end k n rows old → k < end + 1 → (p : List ℕ) → cell_at cs k ≡ Some (holds p) → header_like p ≡ false → Walked cs end (k + 1) n (set rows (n - 1) (more (get_or rows (n - 1) d))) old
 data_turn cs end k n rows old d w h p e t =
@@ -155,13 +138,14 @@ data_turn cs end k n rows old d w h p e t =
     let u : take n (set rows m (more x)) ≡ take m rows ++ more x ∷ [] = ap (λ v. take v (set rows m (more x))) f ∙ take_more_set rows m (more x) (omega arith) in
     let q : step acc k (get_or ps k []) ≡ take m rows ++ more x ∷ [] = ap (step acc k) (packet_is cs end (length old) k r p h e) ∙ cond-false _ _ _ t ∙ ap grown s ∙ grown_last (take m rows) x in
     let long : length (set rows m (more x)) ≡ length rows = length-set rows m (more x) in
+    let few = All-pop (Fewer k) acc (take m rows) (Some x) s w.below in
     record {
       ready = r;
       rest = ap (λ v. scanned v (k + 1) (drop (k + 1) ps)) (u ∙ sym q) ∙ sym (scan_more acc k ps (omega arith)) ∙ w.rest;
       kept = drop-set-lt n rows m (more x) (omega arith) ∙ w.kept;
       within = omega arith;
       some = λ _. o;
-      below = subst (Below (k + 1)) (sym u) (below_grown k (take m rows) x (subst (Below k) s w.below));
+      below = All-same (Fewer (k + 1)) _ _ u (All-push (Fewer (k + 1)) (take m rows) (more x) (All-weaker (Fewer k) (Fewer (k + 1)) (λ r h. omega arith) (take m rows) few.0) (let a = few.1 in omega arith));
     }
 
 -- the walk's end

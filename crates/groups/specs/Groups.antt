@@ -1,6 +1,6 @@
 -- The groups of a file: one row for each header, in the order of the packets.
 use Rattle.std.specs.Prelude.{◌≡◌, ℕ, zero, suc, ◌+◌, ◌≤◌, Bool, true, false, cond, List, [], ◌∷◌, ◌++◌, length, drop, ℤ, pos, negsuc, is_some, Ok, Err, Result, nat_lt}
-use Rattle.station.specs.declared.ramp.Ramp.{Ramp}
+use Rattle.station.specs.RampWords.{Ramp}
 use Rattle.carrier.specs.Cells.{Cell}
 use Rattle.odf.specs.declared.fault.FileFault.{FileFault}
 use Rattle.odf.specs.declared.fault.FileFault.TheVariants.{TooFewRows}

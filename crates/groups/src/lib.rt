@@ -37,11 +37,12 @@ fn fill_rows<C: Carrier>(carrier: &C, end: usize, rows: &mut [GroupRow]) -> Resu
     ensures answer { result ≡ listed (length rows.old) (reads (C.Carrier.cells carrier.now)) }
     ensures shows { rows.new ≡ shown (reads (C.Carrier.cells carrier.now)) rows.old }
 {
+    // The number of rows so far: it is the answer, and the last of them is the row in which data counts.
     let mut n = 0;
     for k in 0..=end {
         let packet = packet_at(carrier, k)?;
         if is_header_like(&packet) {
-            let header = Header::from_packet(&packet);
+            let header = Header::from(&packet);
             rows[n] = GroupRow {
                 key: header.key,
                 secondary: header.secondary,

@@ -1,12 +1,12 @@
 -- The words of a header's packet.
-use Rattle.std.proofs.Common.{◌≡◌, ℕ, zero, suc, ◌*◌, ◌^◌, ◌<◌, ◌≤◌, Bool, true, eqb, List, [], ◌∷◌, length, get_or, ℤ, Ok, Err, sym, refl, ap, ◌∙◌, inl, inr, arith, lit<, w32, SFits, to_z, of_z}
+use Rattle.std.proofs.Common.{◌≡◌, ℕ, zero, suc, ◌*◌, ◌^◌, ◌<◌, ◌≤◌, Bool, true, eqb, List, [], ◌∷◌, length, get_or, ℤ, Some, None, Ok, Err, sym, refl, ap, ◌∙◌, inl, inr, arith, lit<, w32, SFits, to_z, of_z}
 use Rattle.std.proofs.lemmas.List.FromFn.{length-map-range_with_len, get_or-map-range_with_len}
 use Rattle.std.proofs.lemmas.List.{get_or_past}
 use Rattle.std.proofs.lemmas.Int.{to_z-of_z, of_z-to_z, ints}
 use Rattle.std.proofs.lemmas.Bool.{and_from, and_parts, eq-eqb, eqb-true, le-leb, leb-true, cases_lt}
 use Rattle.packet.specs.Packets.{number, word, byte, words_of, bytes_of, header_like}
 use Rattle.packet.proofs.PacketLaws.{words_at, words_back, bytes_back}
-use Rattle.record.specs.Rules.{lowest, within}
+use Rattle.record.specs.Rules.{broken, lowest, within}
 use Rattle.record.specs.declared.fault.RecordFault.TheVariants.{BadItem}
 use Rattle.record.proofs.Lowest.{kept}
 use Rattle.record.proofs.Words.{Each, each_at}
@@ -40,9 +40,13 @@ answer p w least most len k b r e f g =
     let all : r ≡ bad_header least most len k p = g ∙ (λ i. lowest 2 (first i ∷ eqb (at 2 (lit< tt) i) len ∷ eqb (at 3 (lit< tt) i) k ∷ true ∷ true ∷ eqb (at 6 (lit< tt) i) 0 ∷ eqb (at 7 (lit< tt) i) 0 ∷ eqb (at 8 (lit< tt) i) 0 ∷ [])) in
     λ i. headed_by (all i) k (at 1 (lit< tt) i)
 
-pub refuses : (bad k s : ℕ) → 0 < bad → Err (BadItem k bad) ≡ headed_by bad k s
-refuses zero k s h = absurd (omega arith)
-refuses (suc i) k s h = refl
+pub accepts : (bad k s : ℕ) → None ≡ broken bad → Ok s ≡ headed_by bad k s
+accepts zero k s e = refl
+accepts (suc i) k s e = cc
+
+pub refuses : (bad item k s : ℕ) → Some item ≡ broken bad → Err (BadItem k item) ≡ headed_by bad k s
+refuses zero item k s e = cc
+refuses (suc i) item k s e = let same : item ≡ suc i = cc in ap (λ (n : ℕ). Err (BadItem k n)) same
 
 -- any packet of words is of 36 bytes
 pub bytes_long : (ws : List ℕ) → length (bytes_of ws) ≡ 36
@@ -50,7 +54,7 @@ unfolding bytes_of
 bytes_long ws = length-map-range_with_len (byte ws) 0 36
 
 pub bytes_below : (ws : List ℕ) (j : ℕ) → get_or (bytes_of ws) j 0 < 256
-unfolding bytes_of
+unfolding byte bytes_of
 bytes_below ws j =
     elim (cases_lt j 36) [
       | inl l ↦ let e = get_or-map-range_with_len (byte ws) 0 36 j j 0 l (omega arith) in omega arith

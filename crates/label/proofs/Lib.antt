@@ -1,3 +1,2 @@
-pub mod Filled
 pub mod HeaderLaws
 pub mod IdentifierLaws

@@ -1,19 +1,16 @@
 -- What the rules of a label say of its words, and that its words and its items are one another's inverse.
 use Rattle.std.specs.Prelude.{◌≡◌, ℕ, ◌+◌, ◌*◌, ◌/◌, ◌%◌, ◌^◌, ◌<◌, Bool, true, false, List, ◌∷◌, length, Some, ◌≢◌, slice_index, slice_index_or, refl}
-use Rattle.std.proofs.Common.{◌∙◌, ap, sym, arith, lit<}
-use Rattle.std.proofs.Math.Nat.{ℕ_set}
-use Rattle.std.proofs.Math.Bridge.{le_prop}
+use Rattle.std.proofs.Common.{sym, arith, lit<}
 use Rattle.std.proofs.lemmas.Nat.{shr_split}
 use Rattle.std.proofs.lemmas.Bool.Decides.{nat_tests}
-use Rattle.record.proofs.Forming.{Forming, same as same_record, apart_by, forms, formed_items}
+use Rattle.record.proofs.LawfulLaws as lawful_laws
 use Rattle.record.proofs.Lowest.{kept}
 use Rattle.record.proofs.Words.{nine, each_at}
 use Rattle.label.specs.Calendar.{is_date, is_time}
 use Rattle.label.specs.LabelRules.{label_rules, bad_label, unfit, label_words, label_of}
-use Rattle.label.specs.Fits.{fits_lawful, fits_narrow, unfit_none}
-use Rattle.label.specs.Labels.{items_of, made, packed, unpacked}
+use Rattle.label.specs.Fits.{fits_lawful, fits_narrow}
+use Rattle.label.specs.Labels.{Label, rules, words, items_of, made, packed, unpacked}
 use Rattle.label.specs.declared.label.LabelItems.{LabelItems}
-use Rattle.label.specs.declared.label.Label.{Label}
 
 -- eight rules, read one by one
 abbrev pub eight : List Bool → List Bool → List Bool
@@ -32,6 +29,10 @@ words_back w n h k =
     let s = halves (slice_index w 0) (slice_index w 1) h in
     let p = halves (slice_index w 2) (slice_index w 3) k in
     rw (s.0, s.1, p.0, p.1) (sym (nine w n))
+
+-- nine words of 32 bits are those of the items in them
+pub words_given : (w : List ℕ) → length w ≡ 9 → ((k : ℕ) → slice_index w k < 2 ^ 32) → label_words (label_of w) ≡ w
+words_given w n h = words_back w n (h 1) (h 3)
 
 date_narrow : (d : ℕ) → is_date d ≡ true → d < 2 ^ 32
 unfolding is_date
@@ -64,59 +65,60 @@ narrow_items i e =
       reftime = grind (arith, nat_tests);
     }
 
+-- items that fit lie in nine words of 32 bits, of which the fifth is not 0
+pub narrow_fit : (i : LabelItems) → unfit i ≡ 0 → Narrow i
+narrow_fit i e = narrow_items i (fits_lawful i e)
+
+pub items_nine : (i : LabelItems) → length (label_words i) ≡ 9
+unfolding label_words
+items_nine i = refl
+
+pub items_narrow : (i : LabelItems) → unfit i ≡ 0 → (k : ℕ) → slice_index (label_words i) k < 2 ^ 32
+unfolding label_words
+items_narrow i e k =
+    let n = narrow_fit i e in
+    let f = fits_narrow i e in
+    let s : i.system / 2 ^ 32 < 2 ^ 32 = omega arith in
+    let t : i.system % 2 ^ 32 < 2 ^ 32 = omega arith in
+    let p : i.program / 2 ^ 32 < 2 ^ 32 = omega arith in
+    let q : i.program % 2 ^ 32 < 2 ^ 32 = omega arith in
+    each_at (label_words i) (s, (t, (p, (q, (n.spacecraft.1, (n.date, (n.time, (n.refdate, (n.reftime, tt))))))))) k
+
+pub items_headless : (i : LabelItems) → unfit i ≡ 0 → slice_index (label_words i) 4 ≢ 0
+unfolding label_words
+items_headless i e z = let n = narrow_fit i e in omega arith
+
+-- the same of labels
+fits : (x : Label) → unfit (items_of x) ≡ 0
+fits x = x.lawful
+
 pub narrow_label : (x : Label) → Narrow (items_of x)
-narrow_label x = narrow_items (items_of x) x.lawful
+narrow_label x = narrow_fit x.items x.lawful
+
+pub same : (x y : Label) → items_of x ≡ items_of y → x ≡ y
+same = lawful_laws.same rules
 
 -- a label made of its own items is that label
 whole : (x : Label) (e : unfit (items_of x) ≡ 0) → made (items_of x) e ≡ x
-whole x e =
-    λ k. record {
-      system = x.system;
-      program = x.program;
-      spacecraft = x.spacecraft;
-      date = x.date;
-      time = x.time;
-      refdate = x.refdate;
-      reftime = x.reftime;
-      lawful = ℕ_set (bad_label (items_of x)) 0 (fits_lawful (items_of x) e) x.lawful k;
-      narrow = (le_prop (fits_narrow (items_of x) e).0 x.narrow.0 k, le_prop (fits_narrow (items_of x) e).1 x.narrow.1 k);
-    }
-
-fits : (x : Label) → unfit (items_of x) ≡ 0
-fits x = unfit_none (items_of x) x.lawful x.narrow.0 x.narrow.1
-
-abbrev forming : Forming LabelItems Label
-forming = record { bad = unfit; made = made; items = items_of; kept = fits; whole = λ x. whole x (fits x); exact = λ i e. refl }
-
-pub same : (x y : Label) → items_of x ≡ items_of y → x ≡ y
-same = same_record forming
+whole x e = same (made (items_of x) e) x refl
 
 pub read_back : (x : Label) → unpacked (packed x) ≡ Some x
-read_back x = forms forming x (label_of (packed x)) (items_back (items_of x))
+read_back = lawful_laws.read_back rules words (λ i e. items_back i)
 
 pub apart : (x y : Label) → label_words (items_of x) ≡ label_words (items_of y) → x ≡ y
-apart = apart_by packed unpacked read_back
+apart = lawful_laws.apart rules words (λ i e. items_back i)
 
 pub given : (w : List ℕ) (x : Label) → length w ≡ 9 → ((k : ℕ) → slice_index w k < 2 ^ 32) → unpacked w ≡ Some x → packed x ≡ w
-given w x n h e = ap label_words (formed_items forming x (label_of w) e) ∙ words_back w n (h 1) (h 3)
+given = lawful_laws.given rules words words_given
 
 pub lawful : (x : Label) → bad_label (label_of (label_words (items_of x))) ≡ 0
-lawful x = ap bad_label (items_back (items_of x)) ∙ x.lawful
+lawful = lawful_laws.lawful rules words (λ i e. items_back i) fits_lawful
 
 pub nine_words : (x : Label) → length (label_words (items_of x)) ≡ 9
-unfolding label_words
-nine_words x = refl
+nine_words x = items_nine x.items
 
 pub narrow : (x : Label) (k : ℕ) → slice_index (label_words (items_of x)) k < 2 ^ 32
-unfolding label_words
-narrow x k =
-    let n = narrow_label x in
-    let s : x.system / 2 ^ 32 < 2 ^ 32 = omega arith in
-    let t : x.system % 2 ^ 32 < 2 ^ 32 = omega arith in
-    let p : x.program / 2 ^ 32 < 2 ^ 32 = omega arith in
-    let q : x.program % 2 ^ 32 < 2 ^ 32 = omega arith in
-    each_at (label_words (items_of x)) (s, (t, (p, (q, (n.spacecraft.1, (n.date, (n.time, (n.refdate, (n.reftime, tt))))))))) k
+narrow x = items_narrow x.items x.lawful
 
 pub headless : (x : Label) → slice_index (label_words (items_of x)) 4 ≢ 0
-unfolding label_words
-headless x e = let n = narrow_label x in omega arith
+headless x = items_headless x.items x.lawful

@@ -1,23 +1,34 @@
 -- A lawful label by its items, and by nine words.
 use Rattle.std.specs.Prelude.{◌≡◌, ℕ, List, Option}
-use Rattle.record.specs.Kinds.{formed}
+use Rattle.record.specs.Kinds.{made as made_by, packed_by, unpacked_by, bad_by}
+use Rattle.record.specs.declared.kind.Packed.{Ghosts as PackedGhosts}
+use Rattle.record.specs.declared.lawful.Items.{Ghosts as ItemsGhosts}
+use Rattle.record.specs.declared.lawful.Lawful.{Lawful}
 use Rattle.label.specs.LabelRules.{bad_label, unfit, label_words, label_of}
-use Rattle.label.specs.Fits.{fits_lawful, fits_narrow}
 use Rattle.label.specs.declared.label.LabelItems.{LabelItems}
-use Rattle.label.specs.declared.label.Label.{Label}
+
+-- the rules of a label's items, and the nine words that they lie in
+abbrev pub rules : ItemsGhosts LabelItems
+rules = record { bad = bad_label; unfit = unfit }
+
+abbrev pub words : PackedGhosts LabelItems
+words = record { packed = label_words; unpacked = label_of }
+
+abbrev pub Label : Type 0
+Label = Lawful LabelItems rules
 
 abbrev pub items_of : Label → LabelItems
-items_of x = record { system = x.system; program = x.program; spacecraft = x.spacecraft; date = x.date; time = x.time; refdate = x.refdate; reftime = x.reftime }
+items_of x = x.items
 
 -- the label of items that fit
 abbrev pub made : (i : LabelItems) → unfit i ≡ 0 → Label
-made i e = record { system = i.system; program = i.program; spacecraft = i.spacecraft; date = i.date; time = i.time; refdate = i.refdate; reftime = i.reftime; lawful = fits_lawful i e; narrow = fits_narrow i e }
+made = made_by rules
 
 abbrev pub packed : Label → List ℕ
-packed x = label_words (items_of x)
+packed = packed_by rules words
 
 abbrev pub unpacked : List ℕ → Option Label
-unpacked w = formed unfit made (label_of w)
+unpacked = unpacked_by rules words
 
 abbrev pub bad : List ℕ → ℕ
-bad w = bad_label (label_of w)
+bad = bad_by rules words

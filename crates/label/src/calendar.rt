@@ -14,6 +14,7 @@ fn days_in(month: u64, leap: bool) -> u64
 }
 
 /// Whether the number is a day of 1950 to 2049, as YYMMDD: in those years each fourth is a leap year.
+#[tactic(auto, using(std::proofs::lemmas::Bool::Decides::nat_tests), unfolding(crate::specs::Calendar::is_date))]
 pub fn is_date(date: u64) -> bool
     ensures { result ≡ is_date date }
 {
@@ -25,6 +26,7 @@ pub fn is_date(date: u64) -> bool
 }
 
 /// Whether the number is a time of the day, as hhmmss.
+#[tactic(auto, using(std::proofs::lemmas::Bool::Decides::nat_tests), unfolding(crate::specs::Calendar::is_time))]
 pub fn is_time(time: u64) -> bool
     ensures { result ≡ is_time time }
 {

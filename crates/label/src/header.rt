@@ -1,6 +1,7 @@
 //! The packet that begins a group of records.
 ghost use Rattle.std.specs.Prelude.{◌≡◌, true};
 ghost use Rattle.packet.specs.Packets.{bytes_of, header_like};
+ghost use Rattle.record.specs.Rules.{broken};
 ghost use Rattle.label.specs.Headers.{header_words, header_of, headed, bad_spare};
 
 use packet::{Packet, packet_of, words_of};
@@ -35,17 +36,19 @@ impl Header {
             0,
         ])
     }
+}
 
-    /// The header in the first four words of any packet.
-    pub fn from_packet(packet: &Packet) -> Header
-        ensures { result ≡ header_of packet.now }
-    {
-        let words = words_of(packet);
+// The header in the first four words of any packet.
+impl From<&Packet> for Header {
+    ghost from_gives = { λ p h. h ≡ header_of p.now };
+
+    fn from(packet: &Packet) -> Header {
+        let [key, secondary, length, packet, ..] = words_of(packet);
         Header {
-            key: words[0].cast_signed(),
-            secondary: words[1],
-            length: words[2],
-            packet: words[3],
+            key: key.cast_signed(),
+            secondary,
+            length,
+            packet,
         }
     }
 }
@@ -73,17 +76,17 @@ pub fn check_header(
         items[8] == 0,
     ];
     match lowest_broken(&rules) {
-        0 => Ok(items[1]),
-        item => Err(RecordFault::BadItem {
+        None => Ok(items[1]),
+        Some(item) => Err(RecordFault::BadItem {
             packet: number,
             item,
         }),
     }
 }
 
-/// The lowest of words 7, 8 and 9 that is not zero; 0 where each is.
-pub fn spare_item(packet: &Packet) -> usize
-    ensures { result ≡ bad_spare packet.now }
+/// The lowest of words 7, 8 and 9 that is not zero, if one is not.
+pub fn spare_item(packet: &Packet) -> Option<usize>
+    ensures { result ≡ broken (bad_spare packet.now) }
 {
     let words = words_of(packet);
     lowest_broken(&[

@@ -1,12 +1,11 @@
 -- Clearing: what setting fixed bytes and filling a cell leave.
 use Rattle.std.proofs.Common.{◌≡◌, ℕ, zero, suc, ◌+◌, ◌*◌, ◌/◌, ◌<◌, ◌≤◌, ◌≢◌, List, [], ◌∷◌, length, get_or, take, drop, set, replicate, Some, None, Option, sym, refl, ap, ◌∙◌, inl, inr, arith, below_more}
-use Rattle.std.proofs.ByRecursion.{All-get_or}
 use Rattle.std.proofs.lemmas.List.{get_or-set_same, get_or-set_other}
 use Rattle.std.proofs.lemmas.Bool.{eq-eqb, cond-true, cases_order, cases_eq}
 use Rattle.packet.specs.Packets.{filler}
 use Rattle.carrier.specs.Cells.{holds}
-use Rattle.makes.specs.Shapes.{Shape, Sound, Free, Rising, NotFixed, Apart, wrong_in, tab, start_of, place_of, cell_from, cell_of, count_of, cells_of}
-use Rattle.makes.proofs.Rows.{Beside, block-before, fixed_apart, wrong_kept, packet-kept, part_same, held_clean}
+use Rattle.makes.specs.Shapes.{Shape, Sound, Rising, NotFixed, Apart, wrong_in, tab, start_of, place_of, cell_from, cell_of, count_of, cells_of}
+use Rattle.makes.proofs.Rows.{Beside, block-before, fixed_apart, fixed_at, wrong_same, wrong_kept, packet-kept, part_same, held_clean}
 
 rising_low : (low : ℕ) (xs : List (ℕ × ℕ)) (i : ℕ) → Rising low xs → i < length xs → low ≤ (get_or xs i (0, 0)).0
 rising_low low [] i r h = absurd (omega arith)
@@ -36,16 +35,6 @@ pub all_right : (xs : List (ℕ × ℕ)) (start : ℕ) (m : List ℕ) → ((i : 
 all_right [] start m h = refl
 all_right (f ∷ fs) start m h =
     cond-true _ _ _ (eq-eqb _ _ (h 0 (omega arith))) ∙ all_right fs start m (λ i l. h (suc i) (omega arith))
-
-pub wrong_same : (xs : List (ℕ × ℕ)) (start : ℕ) (m n : List ℕ) → ((i : ℕ) → i < length xs → get_or n (start + (get_or xs i (0, 0)).0) 0 ≡ get_or m (start + (get_or xs i (0, 0)).0) 0) → wrong_in xs start n ≡ wrong_in xs start m
-wrong_same [] start m n h = refl
-wrong_same (f ∷ fs) start m n h =
-    let e : get_or n (start + f.0) 0 ≡ get_or m (start + f.0) 0 = h 0 (omega arith) in
-    let r = wrong_same fs start m n (λ i l. h (suc i) (omega arith)) in
-    cc
-
-fixed_at : (sh : Shape) → Sound sh → (i : ℕ) → i < length sh.fixed → ((get_or sh.fixed i (0, 0)).0 < sh.block) × Free sh (get_or sh.fixed i (0, 0)).0
-fixed_at sh s i l = All-get_or (λ f. (f.0 < sh.block) × Free sh f.0) sh.fixed i (0, 0) l s.apart
 
 held-packet : (w : Option ℕ) (p q : List ℕ) → cell_from w p ≡ holds q → p ≡ q
 held-packet None p q h = cc

@@ -1,25 +1,9 @@
 -- What a write of one cell leaves: the bytes of the memory outside its cells.
-use Rattle.std.proofs.Common.{◌≡◌, ℕ, zero, suc, ◌+◌, ◌<◌, ◌≤◌, true, false, cond, ltb, leb, ◌⊎◌, List, ◌++◌, length, get_or, take, drop, Some, None, Err, Option, sym, refl, ap, ◌∙◌, inl, inr, arith}
-use borrow.Rule.Slice.PartMut.{put_mid}
-use Rattle.std.proofs.lemmas.List.{drop-drop, get_or_past}
+use Rattle.std.proofs.Common.{◌≡◌, ℕ, zero, suc, ◌+◌, ◌<◌, ◌≤◌, true, false, cond, ltb, leb, ◌⊎◌, List, length, get_or, sym, refl, ap, ◌∙◌, inl, inr, arith}
+use Rattle.std.proofs.lemmas.List.{get_or_past}
 use Rattle.std.proofs.lemmas.Bool.{le-leb, lt-ltb, cases_lt, cases_eq, cond-false, lt-leb, le-ltb, and_from, and_left, and_right, or_left, or_right, or_from}
-use Rattle.carrier.specs.Cells.{Cell, holds, damaged, reply}
-use Rattle.carrier.specs.declared.fault.CarrierFault.{CarrierFault}
-use Rattle.makes.specs.Shapes.{Shape, Located, tab, count_for, count_of, place_of, in_cells, outside_of, written_at, written}
+use Rattle.makes.specs.Shapes.{Shape, tab, count_for, count_of, place_of, in_cells, outside_of}
 use Rattle.makes.proofs.Rows.{Beside, tab-same, length-tab, get_or-tab}
-
-pub refused_written : (x : Option Cell) (e : CarrierFault) (sh : Shape) (m : List ℕ) (k : ℕ) (p : List ℕ) → reply k x ≡ Err e → written_at x sh m k p ≡ m
-refused_written None e sh m k p h = refl
-refused_written (Some (holds q)) e sh m k p h = let z : ◌≡◌ {A = ℕ} 0 1 = cc in absurd (omega arith)
-refused_written (Some (damaged b)) e sh m k p h = refl
-
-pub put_written : (sh : Shape) (m : List ℕ) (k place w : ℕ) (p q : List ℕ) → Located sh m k place → w ≡ 36 → q ≡ p → put_mid place w m q ≡ written sh m k p
-put_written sh m k place w p q o e f =
-    let d : drop w (drop place m) ≡ drop (place_of sh k + 36) m = drop-drop w place m ∙ ap (λ x. drop x m) (let h = o.placed in omega arith) in
-    ap (λ x. take place m ++ (x ++ drop w (drop place m))) f
-    ∙ ap (λ x. take place m ++ (p ++ x)) d
-    ∙ ap (λ x. take x m ++ (p ++ drop (place_of sh k + 36) m)) o.placed
-    ∙ sym (ap (λ x. written_at x sh m k p) o.held)
 
 -- a byte of a cell below n is in the cells below n
 in_cells_lem : (sh : Shape) (n k j : ℕ) → k < n → place_of sh k ≤ j → j < place_of sh k + 36 → in_cells sh n j ≡ true
@@ -51,6 +35,11 @@ outside_kept sh m n k place h e b =
     ∙ ap (λ c. tab (length m) (shown c n)) count
     ∙ tab-same (length m) (shown (count_of sh m) m) (shown (count_of sh m) n) same
 
+-- a memory but for its cells is as long as the memory
+pub outside_long : (sh : Shape) (m : List ℕ) → length (outside_of sh m) ≡ length m
+unfolding outside_of
+outside_long sh m = length-tab (length m) (λ j. cond (in_cells sh (count_of sh m) j) 0 (get_or m j 0))
+
 -- a byte of none of the cells below n is not in them
 not_in_cells : (sh : Shape) (n j : ℕ) → ((k : ℕ) → k < n → (j < place_of sh k) ⊎ (place_of sh k + 36 ≤ j)) → in_cells sh n j ≡ false
 not_in_cells sh zero j h = refl
@@ -68,7 +57,7 @@ shown_at sh m j h =
     elim (cases_lt j (length m)) [
       | inl l ↦ get_or-tab (length m) (λ i. cond (in_cells sh (count_of sh m) i) 0 (get_or m i 0)) j 0 l ∙ cond-false _ _ _ (not_in_cells sh (count_of sh m) j h)
       | inr l ↦
-          let long = length-tab (length m) (λ i. cond (in_cells sh (count_of sh m) i) 0 (get_or m i 0)) in
+          let long = outside_long sh m in
           get_or_past (outside_of sh m) j 0 (omega arith) ∙ sym (get_or_past m j 0 l)
     ]
 

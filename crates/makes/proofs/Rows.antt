@@ -1,10 +1,10 @@
 -- The cells of a memory: where they lie, that they do not overlap, and what writing one changes.
-use Rattle.std.proofs.Common.{◌≡◌, ℕ, zero, suc, ◌+◌, ◌-◌, ◌*◌, ◌/◌, ◌%◌, ◌<◌, ◌≤◌, ◌≢◌, ◌⊎◌, List, [], ◌∷◌, length, get_or, take, drop, set, Some, None, Option, sym, refl, ap, ◌∙◌, subst, inl, inr, mul-le-mul_right, mod-lt, div-lt_iff_lt-mul, add-mul, mul-le-mul_left, one-mul, div-mul-le_self, arith, rules}
+use Rattle.std.proofs.Common.{◌≡◌, ℕ, zero, suc, ◌+◌, ◌-◌, ◌*◌, ◌/◌, ◌%◌, ◌<◌, ◌≤◌, ◌≢◌, ◌⊎◌, List, [], ◌∷◌, length, get_or, take, drop, set, Some, None, Option, sym, refl, ap, ◌∙◌, subst, inl, inr, mul-le-mul_right, mod-lt, div-lt_iff_lt-mul, add-mul, one-mul, div-mul-le_self, arith, rules}
 use native.Mathlib.Nat.{div-add-mod}
-use Rattle.std.specs.List.{AllByRecursion, between}
-use Rattle.std.proofs.ByRecursion.{All-get_or}
-use Rattle.std.proofs.lemmas.List.{at_drop_more, at_drop_all, ext_get_or, get_or-take, get_or-drop, get_or_past, length-take, length-drop, places}
-use Rattle.std.proofs.lemmas.Bool.{eq-eqb, ne_eqb, cond-true, cond-false, cases_lt, cases_order}
+use Rattle.std.specs.List.{between}
+use Rattle.std.proofs.lemmas.List.Elements.{All-get_or, All-from_recursion}
+use Rattle.std.proofs.lemmas.List.{ext_get_or, get_or-take, get_or-drop, get_or_past, length-take, length-drop, places}
+use Rattle.std.proofs.lemmas.Bool.{cases_lt, cases_order}
 use borrow.Rule.Slice.PartMut.{put_mid}
 use Rattle.std.proofs.lemmas.Slice.{between-put_mid}
 use Rattle.carrier.specs.Cells.{Cell, holds, Proper, Whole, cell_at, put_at, stored}
@@ -52,13 +52,6 @@ tab-set (suc n) f g (suc k) x l e h =
     let r = tab-set n (λ i. f (suc i)) (λ i. g (suc i)) k x (omega arith) e (λ i l ne. h (suc i) (omega arith) (λ q. ne (omega arith))) in
     cc
 
--- the cells of a memory lie within it
-pub count_fits : (sh : Shape) → Sound sh → (n : ℕ) → n / sh.block * sh.packets ≤ n
-count_fits sh s n =
-    let a = div-mul-le_self n sh.block in
-    let b : n / sh.block * sh.packets ≤ n / sh.block * sh.block = mul-le-mul_left (n / sh.block) (omega (arith, s.room)) in
-    omega arith
-
 pub block_fits : (sh : Shape) → Sound sh → (n k : ℕ) → k < n / sh.block * sh.packets → k / sh.packets * sh.block + sh.block ≤ n
 block_fits sh s n k h =
     let q : k / sh.packets < n / sh.block = (div-lt_iff_lt-mul s.some).1 h in
@@ -73,26 +66,25 @@ slot_fits sh s k =
     let m = mod-lt k s.some in
     omega (arith, s.room)
 
--- the fixed bytes lie within the block
+-- a fixed byte lies within its block and in no packet
+pub fixed_at : (sh : Shape) → Sound sh → (i : ℕ) → i < length sh.fixed → ((get_or sh.fixed i (0, 0)).0 < sh.block) × Free sh (get_or sh.fixed i (0, 0)).0
+fixed_at sh s i l =
+    let P : ℕ × ℕ → Type 0 = λ f. (f.0 < sh.block) × Free sh f.0 in
+    All-get_or P sh.fixed i (0, 0) l (All-from_recursion P sh.fixed s.apart)
+
 pub fixed-within : (sh : Shape) → Sound sh → (xs : List (ℕ × ℕ)) → xs ≡ sh.fixed → (i : ℕ) → i < length xs → (get_or xs i (0, 0)).0 < sh.block
 fixed-within sh s xs e i h =
-    let P : ℕ × ℕ → Type 0 = λ f. (f.0 < sh.block) × Free sh f.0 in
-    let Q : List (ℕ × ℕ) → Type 0 = λ ys. (get_or ys i (0, 0)).0 < sh.block in
-    let R : List (ℕ × ℕ) → Type 0 = λ ys. i < length ys in
-    subst Q (sym e) (All-get_or P sh.fixed i (0, 0) (subst R e h) s.apart).0
+    let within : (i : ℕ) → i < length sh.fixed → (get_or sh.fixed i (0, 0)).0 < sh.block = λ i l. (fixed_at sh s i l).0 in
+    let Q : List (ℕ × ℕ) → Type 0 = λ ys. (i : ℕ) → i < length ys → (get_or ys i (0, 0)).0 < sh.block in
+    subst Q (sym e) within i h
 
-pub wrong_none : (xs : List (ℕ × ℕ)) (i start : ℕ) (m : List ℕ) → i < length xs → get_or m (start + (get_or xs i (0, 0)).0) 0 ≡ (get_or xs i (0, 0)).1 → wrong_in (drop (i + 1) xs) start m ≡ wrong_in (drop i xs) start m
-wrong_none xs i start m h e =
-    let s : wrong_in (drop i xs) start m ≡ wrong_in (get_or xs i (0, 0) ∷ drop (i + 1) xs) start m = at_drop_more (λ ys. wrong_in ys start m) xs i (0, 0) h in
-    sym (s ∙ cond-true _ _ _ (eq-eqb _ _ e))
-
-pub wrong_some : (xs : List (ℕ × ℕ)) (i start : ℕ) (m : List ℕ) → i < length xs → (get_or m (start + (get_or xs i (0, 0)).0) 0 ≡ (get_or xs i (0, 0)).1 → ⊥) → Some (start + (get_or xs i (0, 0)).0) ≡ wrong_in (drop i xs) start m
-wrong_some xs i start m h e =
-    let s : wrong_in (drop i xs) start m ≡ wrong_in (get_or xs i (0, 0) ∷ drop (i + 1) xs) start m = at_drop_more (λ ys. wrong_in ys start m) xs i (0, 0) h in
-    sym (s ∙ cond-false _ _ _ (ne_eqb _ _ e))
-
-pub wrong_end : (xs : List (ℕ × ℕ)) (i start : ℕ) (m : List ℕ) → length xs ≤ i → None ≡ wrong_in (drop i xs) start m
-wrong_end xs i start m h = sym (at_drop_all (λ ys. wrong_in ys start m) xs i h)
+-- where the fixed bytes are the same, so is the first that is wrong
+pub wrong_same : (xs : List (ℕ × ℕ)) (start : ℕ) (m n : List ℕ) → ((i : ℕ) → i < length xs → get_or n (start + (get_or xs i (0, 0)).0) 0 ≡ get_or m (start + (get_or xs i (0, 0)).0) 0) → wrong_in xs start n ≡ wrong_in xs start m
+wrong_same [] start m n h = refl
+wrong_same (f ∷ fs) start m n h =
+    let e : get_or n (start + f.0) 0 ≡ get_or m (start + f.0) 0 = h 0 (omega arith) in
+    let r = wrong_same fs start m n (λ i l. h (suc i) (omega arith)) in
+    cc
 
 pub length_cells : (sh : Shape) (m : List ℕ) → length (cells_of sh m) ≡ count_of sh m
 unfolding cells_of
@@ -105,6 +97,12 @@ cells_past sh m k h = at_tab_past (count_of sh m) (cell_of sh m) k h
 pub cells_at : (sh : Shape) (m : List ℕ) (k : ℕ) → k < count_of sh m → cell_at (cells_of sh m) k ≡ Some (cell_of sh m k)
 unfolding cells_of
 cells_at sh m k h = at_tab (count_of sh m) (cell_of sh m) k h
+
+-- cell k, where w is the first fixed byte that is wrong in its block
+pub cell_is : (sh : Shape) (m : List ℕ) (k start : ℕ) (w : Option ℕ) → k < count_of sh m → start ≡ start_of sh k → w ≡ wrong_in sh.fixed start m → cell_at (cells_of sh m) k ≡ Some (cell_from w (take 36 (drop (place_of sh k) m)))
+cell_is sh m k start w h e f =
+    let q : wrong_in sh.fixed (start_of sh k) m ≡ w = ap (λ x. wrong_in sh.fixed x m) (sym e) ∙ sym f in
+    cells_at sh m k h ∙ ap (λ x. Some (cell_from x (take 36 (drop (place_of sh k) m)))) q
 
 -- a block before another ends before it begins
 pub block-before : (q r b : ℕ) → q < r → q * b + b ≤ r * b
@@ -153,13 +151,6 @@ pub record Beside (m n : List ℕ) (place : ℕ) : Type 0 where
   pub below : (j : ℕ) → j < place → get_or n j 0 ≡ get_or m j 0
   pub above : (j : ℕ) → place + 36 ≤ j → get_or n j 0 ≡ get_or m j 0
 
-pub wrong_beside : (sh : Shape) (i place : ℕ) (m n : List ℕ) → Beside m n place → (fs : List (ℕ × ℕ)) → AllByRecursion (λ f. (start_of sh i + f.0 < place) ⊎ (place + 36 ≤ start_of sh i + f.0)) fs → wrong_in fs (start_of sh i) n ≡ wrong_in fs (start_of sh i) m
-wrong_beside sh i place m n b [] a = refl
-wrong_beside sh i place m n b (f ∷ fs) a =
-    let e : get_or n (start_of sh i + f.0) 0 ≡ get_or m (start_of sh i + f.0) 0 = elim a.0 [ inl l ↦ b.below _ l | inr l ↦ b.above _ l ] in
-    let r = wrong_beside sh i place m n b fs a.1 in
-    cc
-
 pub part_same : (m n : List ℕ) (a : ℕ) → length n ≡ length m → ((j : ℕ) → a ≤ j → j < a + 36 → get_or n j 0 ≡ get_or m j 0) → take 36 (drop a n) ≡ take 36 (drop a m)
 part_same m n a l h =
     ext_get_or 0 _ _ (simp (length-take, length-drop, l)) (λ i k.
@@ -175,17 +166,11 @@ pub held_clean : (w : Option ℕ) (p q : List ℕ) → cell_from w p ≡ holds q
 held_clean None p q h = refl
 held_clean (Some j) p q h = let z : ◌≡◌ {A = ℕ} 0 1 = cc in absurd (omega arith)
 
-pub all_map_to : {X : Type 0} (P Q : X → Type 0) → ((x : X) → P x → Q x) → (xs : List X) → AllByRecursion P xs → AllByRecursion Q xs
-all_map_to P Q f [] a = tt
-all_map_to P Q f (x ∷ xs) a = (f x a.0, all_map_to P Q f xs a.1)
-
 pub wrong_kept : (sh : Shape) → Sound sh → (i k place : ℕ) (m n : List ℕ) → place ≡ place_of sh k → Beside m n place → wrong_in sh.fixed (start_of sh i) n ≡ wrong_in sh.fixed (start_of sh i) m
 wrong_kept sh s i k place m n e b =
-    wrong_beside sh i place m n b sh.fixed (all_map_to
-    (λ f. (f.0 < sh.block) × Free sh f.0)
-    (λ f. (start_of sh i + f.0 < place) ⊎ (place + 36 ≤ start_of sh i + f.0))
-    (λ f h. elim (fixed_apart sh s i k f.0 h.0 h.1) [ inl l ↦ inl (omega arith) | inr l ↦ inr (omega arith) ])
-    sh.fixed s.apart)
+    wrong_same sh.fixed (start_of sh i) m n (λ a l.
+    let f = fixed_at sh s a l in
+    elim (fixed_apart sh s i k (get_or sh.fixed a (0, 0)).0 f.0 f.1) [ inl q ↦ b.below _ (omega arith) | inr q ↦ b.above _ (omega arith) ])
 
 pub packet-kept : (sh : Shape) → Sound sh → (i k place : ℕ) (m n : List ℕ) → i ≢ k → place ≡ place_of sh k → Beside m n place → take 36 (drop (place_of sh i) n) ≡ take 36 (drop (place_of sh i) m)
 packet-kept sh s i k place m n ne e b =

@@ -1,7 +1,7 @@
 -- How the makes lay packets out in blocks, and the cells that a memory has under each.
 use Rattle.std.specs.Prelude.{◌≡◌, ℕ, zero, suc, ◌+◌, ◌*◌, ◌/◌, ◌%◌, ◌<◌, ◌≤◌, min, Bool, false, cond, ◌&&◌, ◌||◌, ◌≢◌, ◌⊎◌, List, [], ◌∷◌, ◌++◌, length, take, drop, Some, None, Option, ◌==◌, nat_le, nat_lt, slice_index, slice_index_or}
 use Rattle.std.specs.List.{AllByRecursion}
-use Rattle.carrier.specs.Cells.{Cell, holds, damaged, Kept, named, outside, cell_at}
+use Rattle.carrier.specs.Cells.{Cell, holds, damaged, cell_at}
 
 -- a make: bytes in a block, packets in it, where the first begins, and the bytes that are fixed, each by its place in the
 -- block and its value, in rising order
@@ -105,9 +105,15 @@ in_cells sh (suc n) j = (nat_le (place_of sh n) j && nat_lt j (place_of sh n + 3
 unfoldable pub outside_of : Shape → List ℕ → List ℕ
 outside_of sh m = tab (length m) (λ j. cond (in_cells sh (count_of sh m) j) 0 (slice_index m j))
 
--- what every writing call on a carrier over a memory keeps: which memory it is, by its ghost name, and the bytes outside its cells
-abbrev pub kept_of : Shape → ℕ → List ℕ → List Kept
-kept_of sh n m = named n ∷ outside (outside_of sh m) ∷ []
+-- what every writing call on a carrier over a memory keeps: how it is laid out, which memory it is, by its ghost name, and
+-- that memory but for its cells
+pub record Kept : Type 0 where
+  pub shape : Shape
+  pub name : ℕ
+  pub outside : List ℕ
+
+abbrev pub kept_of : Shape → ℕ → List ℕ → Kept
+kept_of sh n m = record { shape = sh; name = n; outside = outside_of sh m }
 
 -- byte j is none of the fixed bytes of the block that begins at start
 abbrev pub NotFixed : List (ℕ × ℕ) → ℕ → ℕ → Type 0

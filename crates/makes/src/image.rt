@@ -7,35 +7,35 @@ use crate::layout::Layout;
 use carrier::Carrier;
 use carrier::fault::CarrierFault;
 use packet::Packet;
-use std::marker::PhantomData;
 
-/// A memory to read.
-#[derive(Drop)]
+/// A memory to read, and its layout.
+#[derive(Clone, Copy)]
 pub struct Image<'a, L: Layout> {
     memory: &'a [u8],
-    layout: PhantomData<L>,
+    layout: L,
 }
 
 impl<'a, L: Layout> Image<'a, L> {
-    /// The carrier of a memory.
-    pub fn new(bytes: &'a [u8]) -> Self
-        ensures { result.memory.now ≡ bytes.now }
+    /// The carrier of a memory with this layout.
+    pub fn new(layout: L, bytes: &'a [u8]) -> Self
+        ensures memory { result.memory.now ≡ bytes.now }
+        ensures layout { result.layout ≡ layout }
     {
         Image {
             memory: bytes,
-            layout: PhantomData,
+            layout,
         }
     }
 }
 
 impl<'a, L: Layout> Carrier for Image<'a, L> {
-    ghost cells = { λ s. cells_of L.Layout.shape s.memory.now };
+    ghost cells = { λ s. cells_of (L.shape s.layout) s.memory.now };
 
     fn count(&self) -> usize {
-        count_of::<L>(self.memory)
+        count_of(self.layout, self.memory)
     }
 
     fn get(&self, k: usize, packet: &mut Packet) -> Result<(), CarrierFault> {
-        fetch::<L>(self.memory, k, packet)
+        fetch(self.layout, self.memory, k, packet)
     }
 }

@@ -13,7 +13,7 @@ mod tests {
     #[test]
     fn an_empty_memory_has_no_cell(rt: HostRuntime) {
         let mut packet = [7; 36];
-        let image = Image::<Disk>::new(&[]);
+        let image = Image::new(Disk, &[]);
         assert_eq!(rt; image.count(), 0);
         assert_eq!(rt;
             image.get(0, &mut packet),
@@ -27,7 +27,7 @@ mod tests {
         let mut memory = [1; 310];
         let mut packet = [7; 36];
         {
-            let mut image = ImageMut::<Block1200>::new(&mut memory);
+            let mut image = ImageMut::new(Block1200, &mut memory);
             image.clear();
             assert_eq!(rt; image.count(), 6);
             assert_eq!(rt;
@@ -61,10 +61,10 @@ mod tests {
     fn the_first_wrong_fixed_byte_is_named(rt: HostRuntime) {
         let mut memory = [0; 1200];
         let mut packet = [7; 36];
-        ImageMut::<Block4800>::new(&mut memory).clear();
+        ImageMut::new(Block4800, &mut memory).clear();
         memory[600 + 593] = 0x89;
         memory[600 + 592] = 0;
-        let image = Image::<Block4800>::new(&memory);
+        let image = Image::new(Block4800, &memory);
         assert_eq!(rt; image.get(15, &mut packet), Ok(()));
         assert_eq!(rt; packet[0], 0x88);
         packet[0] = 7;
@@ -90,13 +90,13 @@ mod tests {
         let mut memory = [0; 150];
         let damaged = Err(CarrierFault::Damaged { cell: 1, byte: 15 });
         {
-            let mut image = ImageMut::<Block1200>::new(&mut memory);
+            let mut image = ImageMut::new(Block1200, &mut memory);
             image.clear();
         }
         memory[15] = 1;
         memory[124] = 0;
         assert_eq!(rt;
-            ImageMut::<Block1200>::new(&mut memory).put(1, &[7; 36]),
+            ImageMut::new(Block1200, &mut memory).put(1, &[7; 36]),
             damaged
         );
         assert_eq!(rt; [memory[51], memory[52], memory[87]], [0x88, 0x88, 0x88]);
@@ -107,7 +107,7 @@ mod tests {
         let mut memory = vec![in rt.alloc(); 0u8; 4465 * 8064]?;
         let mut packet = [7; 36];
         {
-            let mut image = ImageMut::<Disk>::new(memory.as_mut_slice());
+            let mut image = ImageMut::new(Disk, memory.as_mut_slice());
             assert_eq!(rt; image.count(), 1_000_000);
             image.clear();
             assert_eq!(rt; image.put(999_999, &packet), Ok(()));

@@ -5,6 +5,8 @@ ghost use Rattle.odf.specs.declared.fault.FileFault.TheVariants.{InRecord};
 
 use carrier::fault::Refusal;
 use record::fault::RecordFault;
+use std::error::Error;
+use std::fmt;
 
 /// A file, or a packet of one, that is not as it has to be.
 #[derive(Clone, Copy, PartialEq, Eq, Debug)]
@@ -25,13 +27,13 @@ pub enum FileFault {
     TooFewRows,
 }
 
-impl FileFault {
-    /// The numbers of this fault; a fault of a record tells its own.
-    pub fn refusal(&self) -> Refusal
-        ensures { result ≡ refusal_of self.now }
-    {
-        let (number, packet) = match *self {
-            FileFault::InRecord(fault) => return fault.refusal(),
+// A fault of a record tells its own numbers.
+impl From<FileFault> for Refusal {
+    ghost from_gives = { λ e r. r ≡ refusal_of e };
+
+    fn from(fault: FileFault) -> Refusal {
+        let (number, packet) = match fault {
+            FileFault::InRecord(fault) => return Refusal::from(fault),
             FileFault::Misplaced { packet } => (21, packet),
             FileFault::Ended { packet } => (23, packet),
             FileFault::OutOfOrder { packet } => (24, packet),
@@ -48,6 +50,14 @@ impl FileFault {
         }
     }
 }
+
+impl fmt::Display for FileFault {
+    fn fmt<W: fmt::Write>(&self, f: &mut fmt::Formatter<W>) -> fmt::Result {
+        Refusal::from(*self).fmt(f)
+    }
+}
+
+impl Error for FileFault {}
 
 impl From<RecordFault> for FileFault {
     ghost from_gives = { λ e r. r ≡ InRecord e };

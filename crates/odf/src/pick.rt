@@ -3,14 +3,18 @@ ghost use Rattle.std.specs.Prelude.{◌≡◌, Some, Err, MatchResult, ◌≢◌
 ghost use Rattle.packet.specs.Packets.{bytes_of};
 ghost use Rattle.carrier.specs.Cells.{holds, cell_at, reply};
 ghost use Rattle.carrier.specs.declared.fault.CarrierFault.{CarrierFault};
+ghost use Rattle.record.specs.Kinds.{packed_by, bad_by};
 ghost use Rattle.record.specs.declared.fault.RecordFault.TheVariants.{InCarrier};
+ghost use Rattle.record.specs.declared.lawful.Lawful.{Lawful};
 ghost use Rattle.odf.specs.Picking.{pick_fault};
 
 use crate::fault::FileFault;
 use carrier::Carrier;
 use packet::{Packet, is_header_like};
 use record::fault::RecordFault;
-use record::kind::{RecordKind, unpack};
+use record::kind::RecordKind;
+use record::lawful::Lawful;
+use record::packing::unpack;
 
 /// The packet of a cell.
 pub fn packet_at<C: Carrier>(carrier: &C, k: usize) -> Result<Packet, RecordFault>
@@ -22,8 +26,8 @@ pub fn packet_at<C: Carrier>(carrier: &C, k: usize) -> Result<Packet, RecordFaul
 }
 
 /// Reads cell `k` as a record of kind `K`, judged by the kind's own rules alone.
-pub fn pick<K: RecordKind, C: Carrier>(carrier: &C, k: usize) -> Result<K, FileFault>
-    ensures { MatchResult result (λ x. cell_at (C.Carrier.cells carrier.now) k ≡ Some (holds (bytes_of (K.Packed.packed x)))) (λ e. (e ≡ pick_fault K.Packed.bad k (cell_at (C.Carrier.cells carrier.now) k)) × ((x : K) → cell_at (C.Carrier.cells carrier.now) k ≢ Some (holds (bytes_of (K.Packed.packed x))))) }
+pub fn pick<K: RecordKind, C: Carrier>(carrier: &C, k: usize) -> Result<Lawful<K>, FileFault>
+    ensures { MatchResult result (λ x. cell_at (C.Carrier.cells carrier.now) k ≡ Some (holds (bytes_of (packed_by K.Items K.Packed.own x)))) (λ e. (e ≡ pick_fault (bad_by K.Items K.Packed.own) k (cell_at (C.Carrier.cells carrier.now) k)) × ((x : Lawful K K.Items) → cell_at (C.Carrier.cells carrier.now) k ≢ Some (holds (bytes_of (packed_by K.Items K.Packed.own x))))) }
 {
     let packet = packet_at(carrier, k)?;
     if is_header_like(&packet) {

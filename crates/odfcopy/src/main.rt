@@ -12,8 +12,7 @@ use crate::problem::Problem;
 use carrier::Carrier;
 use convert::{convert, converted_length};
 use makes::image::Image;
-use makes::layout::{Block1200, Block4800, Disk};
-use makes::make::Make;
+use makes::make::{Make, UnknownMake};
 use std::alloc::Global;
 use std::process::ExitCode;
 use std::{env, fs};
@@ -38,18 +37,14 @@ fn convert_carrier<S: Carrier>(heap: Global, source: &S, make: Make) -> Result<C
 fn convert_file(heap: Global, bytes: &[u8], from: Make, to: Make) -> Result<Converted, Problem>
     ensures { MatchResult result (λ d. Gives (shape_of to) (cells_of (shape_of from) bytes.now) d.memory.items d.packets) (λ p. Fails (cells_of (shape_of from) bytes.now) p) }
 {
-    match from {
-        Make::Disk => convert_carrier(heap, &Image::<Disk>::new(bytes), to),
-        Make::Block1200 => convert_carrier(heap, &Image::<Block1200>::new(bytes), to),
-        Make::Block4800 => convert_carrier(heap, &Image::<Block4800>::new(bytes), to),
-    }
+    convert_carrier(heap, &Image::new(from, bytes), to)
 }
 
 /// The make that a word of the command line names.
 fn make_of(heap: Global, word: &str) -> Result<Make, Problem> {
-    match Make::named(word) {
-        Some(make) => Ok(make),
-        None => Err(Problem::UnknownMake(String::from_str(heap, word)?)),
+    match word.parse() {
+        Ok(make) => Ok(make),
+        Err(UnknownMake) => Err(Problem::UnknownMake(String::from_str(heap, word)?)),
     }
 }
 

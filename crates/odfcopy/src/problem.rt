@@ -31,10 +31,7 @@ impl fmt::Display for Problem {
             Problem::NotRead(path) => write!(f, "cannot read {path}"),
             Problem::NotWritten(path) => write!(f, "cannot write {path}"),
             Problem::NoMemory => write!(f, "out of memory"),
-            Problem::Refused(fault) => {
-                let refusal = fault.refusal();
-                write!(f, "{refusal}")
-            }
+            Problem::Refused(fault) => fault.fmt(f),
         }
     }
 }

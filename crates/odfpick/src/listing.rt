@@ -1,53 +1,80 @@
 //! The items of a record with their names and units.
-use orbit::orbit::Orbit;
-use station::clock::Clock;
-use station::ramp::Ramp;
+use orbit::items::OrbitItems;
+use record::kind::RecordKind;
+use station::clock::items::ClockItems;
+use station::ramp::items::RampItems;
+use std::alloc::{AllocError, Global};
 use std::fmt;
 
 /// The number in an item.
 #[derive(Clone, Copy)]
-pub enum Number {
+pub(crate) enum Number {
     Unsigned(u64),
     Signed(i64),
 }
 
+impl From<u64> for Number {
+    fn from(number: u64) -> Number {
+        Number::Unsigned(number)
+    }
+}
+
+impl From<i64> for Number {
+    fn from(number: i64) -> Number {
+        Number::Signed(number)
+    }
+}
+
+impl fmt::Display for Number {
+    fn fmt<W: fmt::Write>(&self, f: &mut fmt::Formatter<W>) -> fmt::Result {
+        match self {
+            Number::Unsigned(number) => number.fmt(f),
+            Number::Signed(number) => number.fmt(f),
+        }
+    }
+}
+
 /// An item: its place in the record, its number, its unit and its name.
 #[derive(Clone, Copy)]
-pub struct Entry {
+pub(crate) struct Entry {
     item: usize,
     number: Number,
     unit: &'static str,
     name: &'static str,
 }
 
-impl fmt::Display for Entry {
-    fn fmt<W: fmt::Write>(&self, f: &mut fmt::Formatter<W>) -> fmt::Result {
-        let item = self.item;
-        let unit = self.unit;
-        let name = self.name;
-        match self.number {
-            Number::Unsigned(n) => write!(f, "{item:>2} {n:>11} {unit:<7} {name}"),
-            Number::Signed(n) => write!(f, "{item:>2} {n:>11} {unit:<7} {name}"),
+impl Entry {
+    fn new<N: Into<Number> + Drop>(
+        item: usize,
+        number: N,
+        unit: &'static str,
+        name: &'static str,
+    ) -> Entry {
+        Entry {
+            item,
+            number: number.into(),
+            unit,
+            name,
         }
     }
 }
 
-fn unsigned(item: usize, number: u64, unit: &'static str, name: &'static str) -> Entry {
-    Entry {
-        item,
-        number: Number::Unsigned(number),
-        unit,
-        name,
+impl fmt::Display for Entry {
+    fn fmt<W: fmt::Write>(&self, f: &mut fmt::Formatter<W>) -> fmt::Result {
+        let Entry {
+            item,
+            number,
+            unit,
+            name,
+        } = self;
+        write!(f, "{item:>2} {number:>11} {unit:<7} {name}")
     }
 }
 
-fn signed(item: usize, number: i64, unit: &'static str, name: &'static str) -> Entry {
-    Entry {
-        item,
-        number: Number::Signed(number),
-        unit,
-        name,
-    }
+/// Items that are listed one by one.
+pub(crate) trait Listed: RecordKind {
+    /// The items in their order.
+    fn entries(&self, heap: Global) -> Result<Vec<Entry>, AllocError>;
 }
 
 /// The unit of the observable of a data type.
@@ -82,100 +109,100 @@ fn compression_unit(kind: u64) -> &'static str {
     }
 }
 
-/// The items of an orbit record.
-pub(crate) fn orbit_entries(record: &Orbit) -> [Entry; 22] {
-    let i = record.items();
-    let unit = observable_unit(i.kind);
-    [
-        unsigned(1, i.seconds, "s", "record time tag, whole seconds"),
-        unsigned(2, i.millis, "ms", "record time tag, milliseconds"),
-        unsigned(3, i.delay, "ns", "receiving station downlink delay"),
-        signed(4, i.whole, unit, "observable, whole part"),
-        signed(
-            5,
-            i.part,
-            "1e-9",
-            "observable, fractional part, billionths of the unit",
-        ),
-        unsigned(6, i.format, "-", "format"),
-        unsigned(7, i.receiver, "-", "receiving station"),
-        unsigned(8, i.transmitter, "-", "transmitting station"),
-        unsigned(9, i.network, "-", "network of the transmitting station"),
-        unsigned(10, i.kind, "-", "data type"),
-        unsigned(11, i.downlink, "-", "downlink band"),
-        unsigned(12, i.uplink, "-", "uplink band"),
-        unsigned(13, i.exciter, "-", "exciter band"),
-        unsigned(14, i.validity, "-", "data validity"),
-        unsigned(
-            15,
-            i.channel,
-            "-",
-            "channel, second station, lowest component or seconds",
-        ),
-        unsigned(16, i.target, "-", "spacecraft or quasar"),
-        unsigned(17, i.indicator, "-", "indicator"),
-        unsigned(18, i.high, "2^24mHz", "reference frequency, high part"),
-        unsigned(19, i.low, "mHz", "reference frequency, low part"),
-        signed(
-            20,
-            i.auxiliary,
-            "-",
-            "calibration, train axis angle or time offset",
-        ),
-        unsigned(
-            21,
-            i.compression,
-            "-",
-            "compression time, modulus or highest component",
-        ),
-        unsigned(22, i.updelay, "ns", "second station or uplink delay"),
-    ]
+impl Listed for OrbitItems {
+    fn entries(&self, heap: Global) -> Result<Vec<Entry>, AllocError> {
+        let unit = observable_unit(self.kind);
+        Ok(vec![in heap;
+            Entry::new(1, self.seconds, "s", "record time tag, whole seconds"),
+            Entry::new(2, self.millis, "ms", "record time tag, milliseconds"),
+            Entry::new(3, self.delay, "ns", "receiving station downlink delay"),
+            Entry::new(4, self.whole, unit, "observable, whole part"),
+            Entry::new(
+                5,
+                self.part,
+                "1e-9",
+                "observable, fractional part, billionths of the unit",
+            ),
+            Entry::new(6, self.format, "-", "format"),
+            Entry::new(7, self.receiver, "-", "receiving station"),
+            Entry::new(8, self.transmitter, "-", "transmitting station"),
+            Entry::new(9, self.network, "-", "network of the transmitting station"),
+            Entry::new(10, self.kind, "-", "data type"),
+            Entry::new(11, self.downlink, "-", "downlink band"),
+            Entry::new(12, self.uplink, "-", "uplink band"),
+            Entry::new(13, self.exciter, "-", "exciter band"),
+            Entry::new(14, self.validity, "-", "data validity"),
+            Entry::new(
+                15,
+                self.channel,
+                "-",
+                "channel, second station, lowest component or seconds",
+            ),
+            Entry::new(16, self.target, "-", "spacecraft or quasar"),
+            Entry::new(17, self.indicator, "-", "indicator"),
+            Entry::new(18, self.high, "2^24mHz", "reference frequency, high part"),
+            Entry::new(19, self.low, "mHz", "reference frequency, low part"),
+            Entry::new(
+                20,
+                self.auxiliary,
+                "-",
+                "calibration, train axis angle or time offset",
+            ),
+            Entry::new(
+                21,
+                self.compression,
+                "-",
+                "compression time, modulus or highest component",
+            ),
+            Entry::new(22, self.updelay, "ns", "second station or uplink delay"),
+        ]?)
+    }
 }
 
-/// The items of a ramp.
-pub(crate) fn ramp_entries(record: &Ramp) -> [Entry; 10] {
-    let i = record.items();
-    [
-        unsigned(1, i.seconds, "s", "ramp start time, whole seconds"),
-        unsigned(2, i.fraction, "1e-9 s", "ramp start time, fraction"),
-        signed(3, i.rate, "Hz/s", "ramp rate, whole part"),
-        signed(4, i.part, "nHz/s", "ramp rate, fractional part"),
-        unsigned(5, i.gigahertz, "GHz", "ramp start frequency, gigahertz"),
-        unsigned(6, i.station, "-", "station"),
-        unsigned(7, i.hertz, "Hz", "ramp start frequency, hertz"),
-        unsigned(
-            8,
-            i.hertzpart,
-            "nHz",
-            "ramp start frequency, fractional part",
-        ),
-        unsigned(9, i.endseconds, "s", "ramp end time, whole seconds"),
-        unsigned(10, i.endfraction, "1e-9 s", "ramp end time, fraction"),
-    ]
+impl Listed for RampItems {
+    fn entries(&self, heap: Global) -> Result<Vec<Entry>, AllocError> {
+        Ok(vec![in heap;
+            Entry::new(1, self.seconds, "s", "ramp start time, whole seconds"),
+            Entry::new(2, self.fraction, "1e-9 s", "ramp start time, fraction"),
+            Entry::new(3, self.rate, "Hz/s", "ramp rate, whole part"),
+            Entry::new(4, self.part, "nHz/s", "ramp rate, fractional part"),
+            Entry::new(5, self.gigahertz, "GHz", "ramp start frequency, gigahertz"),
+            Entry::new(6, self.station, "-", "station"),
+            Entry::new(7, self.hertz, "Hz", "ramp start frequency, hertz"),
+            Entry::new(
+                8,
+                self.hertzpart,
+                "nHz",
+                "ramp start frequency, fractional part",
+            ),
+            Entry::new(9, self.endseconds, "s", "ramp end time, whole seconds"),
+            Entry::new(10, self.endfraction, "1e-9 s", "ramp end time, fraction"),
+        ]?)
+    }
 }
 
-/// The items of a clock offset.
-pub(crate) fn clock_entries(record: &Clock) -> [Entry; 9] {
-    let i = record.items();
-    [
-        unsigned(1, i.seconds, "s", "start time, whole seconds"),
-        unsigned(2, i.fraction, "1e-9 s", "start time, fraction"),
-        signed(3, i.offset, "s", "clock offset, whole part"),
-        signed(4, i.part, "1e-9 s", "clock offset, fractional part"),
-        unsigned(5, i.primary, "-", "primary station"),
-        unsigned(6, i.secondary, "-", "secondary station"),
-        unsigned(7, i.spare, "-", "spare"),
-        unsigned(
-            8,
-            i.endseconds,
-            "s",
-            "reserved for the end time, whole seconds",
-        ),
-        unsigned(
-            9,
-            i.endfraction,
-            "1e-9 s",
-            "reserved for the end time, fraction",
-        ),
-    ]
+impl Listed for ClockItems {
+    fn entries(&self, heap: Global) -> Result<Vec<Entry>, AllocError> {
+        Ok(vec![in heap;
+            Entry::new(1, self.seconds, "s", "start time, whole seconds"),
+            Entry::new(2, self.fraction, "1e-9 s", "start time, fraction"),
+            Entry::new(3, self.offset, "s", "clock offset, whole part"),
+            Entry::new(4, self.part, "1e-9 s", "clock offset, fractional part"),
+            Entry::new(5, self.primary, "-", "primary station"),
+            Entry::new(6, self.secondary, "-", "secondary station"),
+            Entry::new(7, self.spare, "-", "spare"),
+            Entry::new(
+                8,
+                self.endseconds,
+                "s",
+                "reserved for the end time, whole seconds",
+            ),
+            Entry::new(
+                9,
+                self.endfraction,
+                "1e-9 s",
+                "reserved for the end time, fraction",
+            ),
+        ]?)
+    }
 }

@@ -4,19 +4,19 @@
 mod listing;
 mod problem;
 
-use crate::listing::{Entry, clock_entries, orbit_entries, ramp_entries};
+use crate::listing::Listed;
 use crate::problem::Problem;
 use carrier::Carrier;
 use makes::image::Image;
-use makes::layout::{Block1200, Block4800, Disk};
 use makes::make::Make;
 use odf::pick::pick;
-use orbit::orbit::Orbit;
-use station::clock::Clock;
-use station::ramp::Ramp;
+use orbit::items::OrbitItems;
+use station::clock::items::ClockItems;
+use station::ramp::items::RampItems;
 use std::env;
 use std::io::Read;
 use std::process::ExitCode;
+use std::str::FromStr;
 
 /// A kind of record, as the command line names it.
 #[derive(Clone, Copy)]
@@ -26,46 +26,30 @@ enum Kind {
     Clock,
 }
 
-/// The kind that a word names.
-fn kind_of(word: &str) -> Option<Kind> {
-    match word {
-        "orbit" => Some(Kind::Orbit),
-        "ramp" => Some(Kind::Ramp),
-        "clock" => Some(Kind::Clock),
-        _ => None,
+/// That a word names no kind.
+#[derive(Clone, Copy)]
+struct UnknownKind;
+
+impl FromStr for Kind {
+    type Err = UnknownKind;
+
+    fn from_str(word: &str) -> Result<Kind, UnknownKind> {
+        match word {
+            "orbit" => Ok(Kind::Orbit),
+            "ramp" => Ok(Kind::Ramp),
+            "clock" => Ok(Kind::Clock),
+            _ => Err(UnknownKind),
+        }
     }
 }
 
-/// Prints the entries of a record, a line each.
-fn print_all(rt: &HostRuntime, entries: &[Entry]) {
-    for entry in entries {
+/// Picks the record of kind `K` in cell `k` and prints its items, a line each.
+fn show<K: Listed, C: Carrier>(rt: &HostRuntime, carrier: &C, k: usize) -> Result<(), Problem> {
+    let items = pick::<K, C>(carrier, k)?.items();
+    for entry in items.entries(rt.alloc())? {
         let _ = println!(rt; "{entry}");
     }
-}
-
-/// Picks the record in cell `k` and prints it.
-fn show<C: Carrier>(rt: &HostRuntime, carrier: &C, kind: Kind, k: usize) -> Result<(), Problem> {
-    match kind {
-        Kind::Orbit => print_all(rt, &orbit_entries(&pick::<Orbit, C>(carrier, k)?)),
-        Kind::Ramp => print_all(rt, &ramp_entries(&pick::<Ramp, C>(carrier, k)?)),
-        Kind::Clock => print_all(rt, &clock_entries(&pick::<Clock, C>(carrier, k)?)),
-    }
     Ok(())
-}
-
-/// The same in the bytes of a make.
-fn show_in(
-    rt: &HostRuntime,
-    make: Make,
-    bytes: &[u8],
-    kind: Kind,
-    k: usize,
-) -> Result<(), Problem> {
-    match make {
-        Make::Disk => show(rt, &Image::<Disk>::new(bytes), kind, k),
-        Make::Block1200 => show(rt, &Image::<Block1200>::new(bytes), kind, k),
-        Make::Block4800 => show(rt, &Image::<Block4800>::new(bytes), kind, k),
-    }
 }
 
 fn run(rt: &HostRuntime) -> Result<(), Problem> {
@@ -77,10 +61,10 @@ fn run(rt: &HostRuntime) -> Result<(), Problem> {
     let [_, make, kind, cell] = words.as_slice() else {
         return Err(Problem::Words);
     };
-    let Some(make) = Make::named(make.as_str()) else {
+    let Ok(make) = make.as_str().parse::<Make>() else {
         return Err(Problem::UnknownMake(make.clone()?));
     };
-    let Some(kind) = kind_of(kind.as_str()) else {
+    let Ok(kind) = kind.as_str().parse::<Kind>() else {
         return Err(Problem::UnknownKind(kind.clone()?));
     };
     let Ok(k) = cell.as_str().parse::<usize>() else {
@@ -90,7 +74,12 @@ fn run(rt: &HostRuntime) -> Result<(), Problem> {
     if rt.stdin().read_to_end(&mut bytes).is_err() {
         return Err(Problem::NotRead);
     }
-    show_in(rt, make, bytes.as_slice(), kind, k)
+    let image = Image::new(make, bytes.as_slice());
+    match kind {
+        Kind::Orbit => show::<OrbitItems, _>(rt, &image, k),
+        Kind::Ramp => show::<RampItems, _>(rt, &image, k),
+        Kind::Clock => show::<ClockItems, _>(rt, &image, k),
+    }
 }
 
 fn main(rt: HostRuntime) -> ExitCode {

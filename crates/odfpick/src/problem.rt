@@ -33,10 +33,7 @@ impl fmt::Display for Problem {
             Problem::NoCell(word) => write!(f, "{word} is not the number of a cell"),
             Problem::NotRead => write!(f, "cannot read standard input"),
             Problem::NoMemory => write!(f, "out of memory"),
-            Problem::Refused(fault) => {
-                let refusal = fault.refusal();
-                write!(f, "{refusal}")
-            }
+            Problem::Refused(fault) => fault.fmt(f),
         }
     }
 }

@@ -1,5 +1,5 @@
 -- How the items of an orbit record lie in nine words.
-use Rattle.std.specs.Prelude.{ℕ, suc, ◌+◌, ◌-◌, ◌*◌, ◌/◌, ◌%◌, ◌^◌, cond, List, [], ◌∷◌, ℤ, pos, negsuc, nat_lt, slice_index}
+use Rattle.std.specs.Prelude.{ℕ, suc, ◌+◌, ◌-◌, ◌*◌, ◌/◌, ◌%◌, ◌^◌, cond, ◌||◌, ◌==◌, List, [], ◌∷◌, ℤ, pos, negsuc, nat_lt, slice_index}
 use Rattle.std.proofs.Common.{to_z, of_z}
 use Rattle.std.specs.Int.{w32}
 use Rattle.packet.specs.Fields.{join, split}
@@ -71,3 +71,7 @@ orbit_from s a b l2 l5 l67 l89 = record {
 
 unfoldable pub orbit_of : List ℕ → OrbitItems
 orbit_of w = orbit_from (slice_index w 0) (to_z w32 (slice_index w 2)) (to_z w32 (slice_index w 3)) (split W2 (slice_index w 1)) (split W5 (slice_index w 4)) (split W67 (slice_index w 5 * 2 ^ 32 + slice_index w 6)) (split W89 (slice_index w 7 * 2 ^ 32 + slice_index w 8))
+
+-- item 16 names the spacecraft, but for types 3, 4 and 6, where it names a quasar
+abbrev pub foreign_orbit : ℕ → OrbitItems → ℕ
+foreign_orbit o i = cond (i.kind == 3 || i.kind == 4 || i.kind == 6 || i.target == o) 0 16

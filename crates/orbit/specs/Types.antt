@@ -1,5 +1,5 @@
 -- The data types of orbit records: which there are, and what each measures.
-use Rattle.std.specs.Prelude.{ℕ, Bool, true, false, cond, ◌||◌, List, [], ◌∷◌, Some, None, Option, ◌==◌}
+use Rattle.std.specs.Prelude.{ℕ, Bool, true, false, cond, ◌||◌, Some, None, Option, ◌==◌}
 use Rattle.record.specs.Rules.{within}
 use Rattle.orbit.specs.declared.types.Class.{Class}
 use Rattle.orbit.specs.declared.types.Class.TheVariants.{Vlbi, Doppler, Range, Angle}
@@ -10,11 +10,6 @@ class_at k =
     (cond (within 11 13 k) (Some Doppler)
     (cond (k == 36 || k == 37 || k == 41) (Some Range)
     (cond (within 51 58 k) (Some Angle) None)))
-
--- what a table has beside a code
-abbrev pub look : ℕ → List (ℕ × Class) → Option Class
-look k [] = None
-look k (e ∷ es) = cond (e.0 == k) (Some e.1) (look k es)
 
 abbrev pub is_angle : Option Class → Bool
 is_angle None = false

@@ -4,6 +4,7 @@ ghost use Rattle.orbit.specs.OrbitRules.{held, one_way, receive_only, no_referen
 
 use crate::items::OrbitItems;
 use crate::types::{is_angle, is_known};
+use record::lawful::Items;
 use record::rules::{is_signed_pair, is_signed32, is_within, lowest_broken};
 
 /// At most so much, and zero where it has to be.
@@ -95,9 +96,14 @@ fn rules(items: &OrbitItems) -> [bool; 22]
     ]
 }
 
-/// The lowest item that breaks its rule; 0 where each is kept.
-pub(crate) fn bad_item(items: &OrbitItems) -> usize
-    ensures { result ≡ bad_orbit items.now }
-{
-    lowest_broken(&rules(items))
+impl Items for OrbitItems {
+    ghost bad = { bad_orbit };
+
+    ghost unfit = { bad_orbit };
+
+    ghost keeps = { λ i e. e };
+
+    fn bad_item(&self) -> Option<usize> {
+        lowest_broken(&rules(self))
+    }
 }

@@ -34,6 +34,7 @@ unfolding join split
 whole n h = let e = join-split (8 ∷ 8 ∷ 8 ∷ 8 ∷ []) n in omega arith
 
 digit : (w : List ℕ) (k i j : ℕ) → i < 4 → 4 * k + i ≡ j → byte w j ≡ get_or w k 0 / 256 ^ (3 - i) % 256
+unfolding byte
 digit w k i j l e =
     let q : j / 4 ≡ k = omega arith in
     let r : j % 4 ≡ i = omega arith in
@@ -62,6 +63,7 @@ spread b q (suc (suc (suc (suc j)))) f h = absurd (omega arith)
 
 -- the words of a packet give its bytes back
 pub bytes_back : (b w : List ℕ) → length b ≡ 36 → ((k : ℕ) → get_or b k 0 < 256) → w ≡ words_of b → bytes_of w ≡ b
+unfolding byte
 bytes_back b w n f e =
     sym (bytes_from w b n (λ k h.
     let q : k / 4 < 9 = omega arith in

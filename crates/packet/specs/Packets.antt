@@ -15,7 +15,7 @@ abbrev pub word : List ℕ → ℕ → ℕ
 word p n = number p (4 * (n - 1))
 
 -- byte j of the packet of some words: the first four are those of the first word
-abbrev pub byte : List ℕ → ℕ → ℕ
+unfoldable pub byte : List ℕ → ℕ → ℕ
 byte ws j = slice_index ws (j / 4) / 256 ^ (3 - j % 4) % 256
 
 unfoldable pub words_of : List ℕ → List ℕ

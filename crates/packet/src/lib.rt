@@ -2,7 +2,9 @@
 #![tactic(auto)]
 
 ghost use Rattle.std.specs.Prelude.{◌≡◌, ◌<◌, ◌≤◌};
-ghost use Rattle.packet.specs.Packets.{word, words_of, bytes_of, header_like};
+ghost use Rattle.packet.specs.Packets.{word, byte, words_of, bytes_of, header_like};
+
+use std::array;
 
 /// Thirty-six bytes, the most significant of each word first.
 pub type Packet = [u8; 36];
@@ -19,16 +21,20 @@ fn word_of(packet: &Packet, number: usize) -> u32
     u32::from_be_bytes([packet[at], packet[at + 1], packet[at + 2], packet[at + 3]])
 }
 
+/// The byte at this place of the packet of nine words.
+fn byte_of(words: &[u32; 9], place: usize) -> u8
+    requires { place < 36 }
+    ensures { result ≡ byte words.now place }
+{
+    words[place / 4].to_be_bytes()[place % 4]
+}
+
 /// The nine words of a packet.
 pub fn words_of(packet: &Packet) -> [u32; 9]
     ensures words { result ≡ words_of packet.now }
     ensures back { bytes_of result ≡ packet.now }
 {
-    let mut words = [0; 9];
-    for (i, place) in words.iter_mut().enumerate() {
-        *place = word_of(packet, i + 1);
-    }
-    words
+    array::from_fn(|i| word_of(packet, i + 1))
 }
 
 /// The packet of nine words.
@@ -36,11 +42,7 @@ pub fn packet_of(words: &[u32; 9]) -> Packet
     ensures bytes { result ≡ bytes_of words.now }
     ensures back { words_of result ≡ words.now }
 {
-    let mut packet = [0; 36];
-    for (i, byte) in packet.iter_mut().enumerate() {
-        *byte = words[i / 4].to_be_bytes()[i % 4];
-    }
-    packet
+    array::from_fn(|i| byte_of(words, i))
 }
 
 /// Whether words 5 and 6 are both zero: so begins a group, and no record does.

@@ -1,8 +1,8 @@
 -- The rows of a summary, compared one batch after another.
-use Rattle.std.proofs.Common.{◌≡◌, ℕ, zero, suc, ◌+◌, ◌<◌, ◌≤◌, true, false, List, [], ◌∷◌, ◌++◌, map, length, take, drop, is_some, Some, None, Ok, Err, Option, sym, refl, ap, ◌∙◌, inl, inr, add-zero, arith}
+use Rattle.std.proofs.Common.{◌≡◌, ℕ, zero, suc, ◌+◌, ◌<◌, ◌≤◌, true, false, List, [], ◌∷◌, ◌++◌, map, length, get_or, take, drop, is_some, Some, None, Ok, Err, Option, sym, refl, ap, ◌∙◌, inl, inr, add-zero, arith}
 use Rattle.std.specs.List.{slice_get}
 use Rattle.std.specs.Str.{bytes_eq}
-use Rattle.std.proofs.lemmas.List.{take-append-drop, map-append, drop-drop, length-take}
+use Rattle.std.proofs.lemmas.List.{take-append-drop, map-append, drop-map, drop_more, length-map, drop-drop, length-take}
 use Rattle.std.proofs.lemmas.Bool.{cases_Bool}
 use Rattle.carrier.specs.Cells.{Cell, holds, damaged}
 use Rattle.summary.specs.declared.summary_key.SummaryKey.{SummaryKey}
@@ -10,7 +10,7 @@ use Rattle.summary.specs.declared.table.Row.{Row}
 use Rattle.summary.specs.Rows.{rows_of, over, key_of, highest_of}
 use Rattle.summary.proofs.Batches.{batch_next, batch_last}
 use Rattle.summary.specs.KeyLaws.{summary_ordered}
-use Rattle.orbit.specs.declared.orbit.Orbit.{Orbit}
+use Rattle.orbit.specs.Orbits.{Orbit}
 use Rattle.summary.specs.RowWords.{row_packet}
 use Rattle.summary.specs.SummaryKeys.{summary_of, summary_lt}
 use Rattle.summary.specs.Found.{orbits_in}
@@ -34,43 +34,34 @@ rows_split k (x ∷ xs) ys (holds p ∷ ds) =
       | inr t ↦ rw t refl
     ]
 
-pub row_at : {A B : Type 0} (f : A → B) (xs : List A) (i : ℕ) (x : A) → slice_get xs i ≡ Some x → drop i (map f xs) ≡ f x ∷ drop (suc i) (map f xs)
-row_at f [] i x h = let z : ◌≡◌ {A = ℕ} 0 1 = cc in absurd (omega arith)
-row_at f (y ∷ xs) zero x h = let e : y ≡ x = cc in ap (λ v. f v ∷ map f xs) e
-row_at f (y ∷ xs) (suc i) x h = row_at f xs i x h
-
-pub length_rows : {A B : Type 0} (f : A → B) (xs : List A) → length (map f xs) ≡ length xs
-length_rows f [] = refl
-length_rows f (x ∷ xs) = ap suc (length_rows f xs)
-
-pub row_none : {A : Type 0} (xs : List A) (i : ℕ) → slice_get xs i ≡ None → length xs ≤ i
-row_none [] i h = omega arith
-row_none (x ∷ xs) zero h = let z : ◌≡◌ {A = ℕ} 0 1 = cc in absurd (omega arith)
-row_none (x ∷ xs) (suc i) h = let r = row_none xs i h in omega arith
+row_at : {A B : Type 0} (f : A → B) (xs : List A) (i : ℕ) (d : A) → i < length xs → drop i (map f xs) ≡ f (get_or xs i d) ∷ drop (i + 1) (map f xs)
+row_at f xs i d h = drop-map f i xs ∙ ap (map f) (drop_more xs i d h) ∙ ap (λ z. f (get_or xs i d) ∷ z) (sym (drop-map f (i + 1) xs))
 
 nth_below : (rows : List (Row SummaryKey)) (i : ℕ) (k : SummaryKey) → key_of (slice_get rows i) ≡ Some k → i < length rows
-nth_below [] i k h = let z : ◌≡◌ {A = ℕ} 0 1 = cc in absurd (omega arith)
+nth_below [] i k h = absurd cc
 nth_below (r ∷ rows) zero k h = omega arith
 nth_below (r ∷ rows) (suc i) k h = let n = nth_below rows i k h in omega arith
 
 -- row i of a batch that stands from cell first on
-module _ {A : Type 0} (f : A → List ℕ) (xs : List A) (cs : List Cell) (first i : ℕ) (x : A) (h : slice_get xs i ≡ Some x) where
+module _ {A : Type 0} (f : A → List ℕ) (xs : List A) (cs : List Cell) (first i : ℕ) (d : A) (h : i < length xs) where
   abbrev rows : List (List ℕ)
   rows = map f xs
 
-  split : rows_at (first + i) (drop i rows) (drop (first + i) cs) ≡ and_then (rows_at (first + i) (f x ∷ []) (drop (first + i) cs)) (λ _. rows_at (first + (i + 1)) (drop (i + 1) rows) (drop (first + (i + 1)) cs))
+  abbrev row : List ℕ
+  row = f (get_or xs i d)
+
+  split : rows_at (first + i) (drop i rows) (drop (first + i) cs) ≡ and_then (rows_at (first + i) (row ∷ []) (drop (first + i) cs)) (λ _. rows_at (first + (i + 1)) (drop (i + 1) rows) (drop (first + (i + 1)) cs))
   split =
       let e : first + i + 1 ≡ first + (i + 1) = omega arith in
-      let d : drop 1 (drop (first + i) cs) ≡ drop (first + (i + 1)) cs = drop-drop 1 (first + i) cs ∙ ap (λ v. drop v cs) e in
-      let n : suc i ≡ i + 1 = omega arith in
-      ap (λ v. rows_at (first + i) v (drop (first + i) cs)) (row_at f xs i x h)
-      ∙ rows_split (first + i) (f x ∷ []) (drop (suc i) rows) (drop (first + i) cs)
-      ∙ (λ j. and_then (rows_at (first + i) (f x ∷ []) (drop (first + i) cs)) (λ _. rows_at (e j) (drop (n j) rows) (d j)))
+      let c : drop 1 (drop (first + i) cs) ≡ drop (first + (i + 1)) cs = drop-drop 1 (first + i) cs ∙ ap (λ v. drop v cs) e in
+      ap (λ v. rows_at (first + i) v (drop (first + i) cs)) (row_at f xs i d h)
+      ∙ rows_split (first + i) (row ∷ []) (drop (i + 1) rows) (drop (first + i) cs)
+      ∙ (λ j. and_then (rows_at (first + i) (row ∷ []) (drop (first + i) cs)) (λ _. rows_at (e j) (drop (i + 1) rows) (c j)))
 
-  pub row-err : (e : FileFault) → Err e ≡ rows_at (first + i) (f x ∷ []) (drop (first + i) cs) → rows_at (first + i) (drop i rows) (drop (first + i) cs) ≡ Err e
+  pub row-err : (e : FileFault) → Err e ≡ rows_at (first + i) (row ∷ []) (drop (first + i) cs) → rows_at (first + i) (drop i rows) (drop (first + i) cs) ≡ Err e
   row-err e q = split ∙ ap (λ v. and_then v (λ _. rows_at (first + (i + 1)) (drop (i + 1) rows) (drop (first + (i + 1)) cs))) (sym q)
 
-  pub row_ok : (u : Unit {0}) → Ok u ≡ rows_at (first + i) (f x ∷ []) (drop (first + i) cs) → rows_at (first + i) (drop i rows) (drop (first + i) cs) ≡ rows_at (first + (i + 1)) (drop (i + 1) rows) (drop (first + (i + 1)) cs)
+  pub row_ok : (u : Unit {0}) → Ok u ≡ rows_at (first + i) (row ∷ []) (drop (first + i) cs) → rows_at (first + i) (drop i rows) (drop (first + i) cs) ≡ rows_at (first + (i + 1)) (drop (i + 1) rows) (drop (first + (i + 1)) cs)
   row_ok u q = split ∙ ap (λ v. and_then v (λ _. rows_at (first + (i + 1)) (drop (i + 1) rows) (drop (first + (i + 1)) cs))) (sym q)
 
 -- the first 64 of some rows, which stand from cell k on
@@ -89,7 +80,7 @@ module _ (rows : List (Row SummaryKey)) (cs : List Cell) (k : ℕ) where
 
   pub batch-ok : (u : Unit {0}) (n : ℕ) → Ok u ≡ rows_at k batch (drop k cs) → n ≡ length (take 64 rows) → rows_at k (map row_packet rows) (drop k cs) ≡ rows_at (k + n) (map row_packet (drop 64 rows)) (drop (k + n) cs)
   batch-ok u n q e =
-      let l : length batch ≡ n = length_rows row_packet (take 64 rows) ∙ sym e in
+      let l : length batch ≡ n = length-map (take 64 rows) row_packet ∙ sym e in
       cut
       ∙ ap (λ v. and_then v (λ _. rows_at (k + length batch) (map row_packet (drop 64 rows)) (drop (length batch) (drop k cs)))) (sym q)
       ∙ ap (λ v. rows_at (k + v) (map row_packet (drop 64 rows)) (drop v (drop k cs))) l
@@ -101,12 +92,12 @@ module _ (rows : List (Row SummaryKey)) (cs : List Cell) (k : ℕ) where
 
 -- the batch behind a batch
 some_key : (o : Option SummaryKey) → is_some o ≡ true → (k : SummaryKey) × (o ≡ Some k)
-some_key None h = let z : ◌≡◌ {A = ℕ} 0 1 = cc in absurd (omega arith)
+some_key None h = absurd cc
 some_key (Some k) h = (k, refl)
 
 no_key : (o : Option SummaryKey) → is_some o ≡ false → o ≡ None
 no_key None h = refl
-no_key (Some k) h = let z : ◌≡◌ {A = ℕ} 0 1 = cc in absurd (omega arith)
+no_key (Some k) h = absurd cc
 
 pub record More (all : List (Row SummaryKey)) (a b : Option SummaryKey) (n : ℕ) : Type 0 where
   pub left : over summary_lt b all ≡ drop 64 (over summary_lt a all)

@@ -1,20 +1,20 @@
 -- A whole file: what is read is what was laid, for any rows of the summary.
 use Rattle.std.proofs.Common.{◌≡◌, ℕ, zero, suc, ◌+◌, ◌^◌, ◌<◌, ◌≤◌, Bool, false, cond, List, [], ◌∷◌, ◌++◌, map, length, drop, replicate, ℤ, pos, Some, Ok, Err, Result, sym, refl, ap, ◌∙◌, subst, arith, lit<}
-use Rattle.std.proofs.lemmas.List.{length-append, length-replicate, drop-drop}
+use Rattle.std.proofs.lemmas.List.{length-map, length-append, length-replicate, drop-drop}
 use Rattle.packet.specs.Packets.{bytes_of, header_like, filler}
 use Rattle.carrier.specs.Cells.{Cell, holds, damaged, Proper, Whole}
 use Rattle.record.specs.declared.fault.RecordFault.{RecordFault}
 use Rattle.record.specs.Kinds.{Kind, kind_by, plain}
-use Rattle.orbit.specs.declared.orbit.Orbit.{Orbit}
+use Rattle.orbit.specs.Orbits.{Orbit}
 use Rattle.orbit.specs.Orbits.{orbit_kind}
 use Rattle.orbit.specs.OrbitKindLaws as orbit-laws
-use Rattle.station.specs.declared.ramp.Ramp.{Ramp}
+use Rattle.station.specs.RampWords.{Ramp}
 use Rattle.station.specs.RampWords.{ramp_kind}
 use Rattle.station.specs.RampLaws as ramp-laws
-use Rattle.station.specs.declared.clock.Clock.{Clock}
+use Rattle.station.specs.ClockWords.{Clock}
 use Rattle.station.specs.ClockWords.{clock_kind}
 use Rattle.station.specs.ClockLaws as clock-laws
-use Rattle.label.specs.declared.label.Label.{Label}
+use Rattle.label.specs.Labels.{Label}
 use Rattle.label.specs.Labels as labels
 use Rattle.label.specs.Identifiers.{identifier, bad_identifier}
 use Rattle.label.specs.Headers.{header_packet}
@@ -27,10 +27,11 @@ use Rattle.reading.specs.Contents.{Contents, Lawful, packed, following, packets_
 use Rattle.reading.specs.Reading.{none, group, onward, Rest, data_at, header_at, identified, opening, reads_by}
 use Rattle.reading.proofs.Steps.{never, then_ok, lifted_ok, seen_ok, if_not}
 use Rattle.reading.proofs.Groups.{Laws, owned_is, owned_back, data_like}
-use Rattle.reading.proofs.Openings.{Keyed, Grouped, opened_is, opened_back, group_is, group_back, drop-packed, label_key, identifier_key, orbit_key}
-use Rattle.reading.proofs.Turns.{zero_key, whole_drop, drop_one_more, holds-append}
+use Rattle.reading.proofs.Openings.{Keyed, Grouped, opened_is, opened_back, group_is, group_back, behind_laid, label_key, identifier_key, orbit_key}
+use Rattle.carrier.proofs.Rows.{whole_drop}
+use Rattle.reading.proofs.Turns.{zero_key, drop_one_more, holds-append}
 use Rattle.reading.proofs.Onward.{Behind, onward_is}
-use Rattle.reading.proofs.Laying.{none_within, length-packed, following-headed, following_some, onward_back}
+use Rattle.reading.proofs.Laying.{none_within, following-headed, following_some, onward_back}
 
 pub orbits_lawful : Laws orbit_kind
 orbits_lawful = record { back = orbit-laws.read_back; given = orbit-laws.given; nine = orbit-laws.nine_words; narrow = orbit-laws.narrow; headless = λ x e _. orbit-laws.headless x e }
@@ -99,7 +100,7 @@ pub record Stands (rows_for : List Orbit → List (List ℕ)) (cs : List Cell) (
 abbrev contents : Label → ℕ × List Orbit → Rest → Contents
 contents label g r = record { label = label; summary = r.summary; orbits = g.1; ramps = r.ramps; clocks = r.clocks }
 
-stands : (rows_for : List Orbit → List (List ℕ)) (cs : List Cell) (label : Label) (g : ℕ × List Orbit) (r : Rest) → cs ≡ holds (header_packet (pos 101) 0 1 0) ∷ holds (bytes_of (labels.packed label)) ∷ holds (header_packet (pos 107) 0 1 2) ∷ holds identifier ∷ drop 4 cs → Grouped orbit_kind (pos 109) 0 none (Some label.spacecraft) 4 (drop 4 cs) g.0 g.1 → Behind Orbits (rows_for g.1) (5 + length g.1) (drop (5 + length g.1) cs) r → Stands rows_for cs (contents label g r)
+stands : (rows_for : List Orbit → List (List ℕ)) (cs : List Cell) (label : Label) (g : ℕ × List Orbit) (r : Rest) → cs ≡ holds (header_packet (pos 101) 0 1 0) ∷ holds (bytes_of (labels.packed label)) ∷ holds (header_packet (pos 107) 0 1 2) ∷ holds identifier ∷ drop 4 cs → Grouped orbit_kind (pos 109) 0 none (Some label.items.spacecraft) 4 (drop 4 cs) g.0 g.1 → Behind Orbits (rows_for g.1) (5 + length g.1) (drop (5 + length g.1) cs) r → Stands rows_for cs (contents label g r)
 stands rows_for cs label g r o h b =
     let xs = g.1 in
     let rest = following r.ramps r.clocks r.summary (rows_for xs) (5 + length xs) in
@@ -120,10 +121,10 @@ pub reads_is : (rows_for : List Orbit → List (List ℕ)) (cs : List Cell) (c :
 reads_is rows_for cs c w e =
     let a = then_ok (opening cs) _ c e in
     let label = a.0 in
-    let b = then_ok (group orbit_kind 109 0 none (Some label.spacecraft) 4 (drop 4 cs)) _ c a.1.1 in
+    let b = then_ok (group orbit_kind 109 0 none (Some label.items.spacecraft) 4 (drop 4 cs)) _ c a.1.1 in
     let g = b.0 in
     let d = seen_ok (contents label g) (onward (length cs) Orbits (rows_for g.1) (5 + length g.1) (drop (5 + length g.1) cs)) c b.1.1 in
-    let h = group_is orbit_kind orbits_lawful (pos 109) 109 0 none (Some label.spacecraft) 4 (drop 4 cs) g orbit_key (whole_drop cs 4 w) b.1.0 in
+    let h = group_is orbit_kind orbits_lawful (pos 109) 109 0 none (Some label.items.spacecraft) 4 (drop 4 cs) g orbit_key (whole_drop cs 4 w) b.1.0 in
     let r = onward_is ramps_lawful clocks_lawful (length cs) Orbits (rows_for g.1) (5 + length g.1) (drop (5 + length g.1) cs) d.0 (whole_drop cs (5 + length g.1) w) d.1.0 in
     subst (Stands rows_for cs) d.1.1 (stands rows_for cs label g d.0 (opening_is cs label w a.1.0) h r)
 
@@ -170,13 +171,13 @@ reads_back rows_for c m l n =
     let xs = c.orbits in
     let rows = rows_for xs in
     let rest = replicate m (holds filler) in
-    let owner = Some c.label.spacecraft in
+    let owner = Some c.label.items.spacecraft in
     let fs = following c.ramps c.clocks c.summary rows (5 + length xs) in
     let head = header_packet (pos 109) 0 1 4 in
     let body = map holds (packed orbit_kind xs ++ fs) ++ rest in
     let cs = map holds (packets_with rows c) ++ rest in
     let a : length (packed orbit_kind xs ++ fs) ≡ length (packed orbit_kind xs) + length fs = length-append (packed orbit_kind xs) fs in
-    let b : length (packed orbit_kind xs) ≡ length xs = length-packed orbit_kind xs in
+    let b : length (packed orbit_kind xs) ≡ length xs = length-map xs _ in
     let total : suc (suc (suc (suc (suc (length (packed orbit_kind xs ++ fs)))))) ≤ 2 ^ 32 = n in
     let long : length cs ≡ suc (suc (suc (suc (suc (length (packed orbit_kind xs ++ fs)))))) + m = length_laid (packets_with rows c) m in
     let some = following_some c.ramps c.clocks c.summary rows (5 + length xs) in
@@ -186,7 +187,7 @@ reads_back rows_for c m l n =
     let g : group orbit_kind 109 0 none owner 4 (holds head ∷ body) ≡ Ok (0, xs) =
     ap (λ v. group orbit_kind 109 0 none owner 4 (holds head ∷ v)) (split ∙ ap (λ v. map holds (packed orbit_kind xs) ++ (map holds v ++ rest)) h.is)
     ∙ group_back orbit_kind orbits_lawful (pos 109) 109 0 none owner 4 0 xs h.first (map holds h.others ++ rest) orbit_key (lit< tt) (lit< tt) none_within l.orbits (omega arith) h.like in
-    let past : drop (5 + length xs) cs ≡ map holds fs ++ rest = sym (drop-drop (length xs) 5 cs) ∙ ap (drop (length xs)) split ∙ drop-packed orbit_kind xs (map holds fs ++ rest) in
+    let past : drop (5 + length xs) cs ≡ map holds fs ++ rest = sym (drop-drop (length xs) 5 cs) ∙ ap (drop (length xs)) split ∙ behind_laid (packed orbit_kind xs) _ (map holds fs ++ rest) (sym (length-map xs _)) in
     let r : onward (length cs) Orbits rows (5 + length xs) (drop (5 + length xs) cs) ≡ Ok (record { summary = c.summary; ramps = c.ramps; clocks = c.clocks }) =
     ap (onward (length cs) Orbits rows (5 + length xs)) past
     ∙ onward_back ramps_lawful clocks_lawful (length cs) Orbits 0 rows (5 + length xs) c.ramps c.clocks c.summary m refl l.ramps l.clocks (omega arith) (omega arith) in

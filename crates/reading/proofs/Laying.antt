@@ -1,13 +1,13 @@
 -- All groups behind the orbit records: those that are laid are read.
-use Rattle.std.proofs.Common.{◌≡◌, ℕ, zero, suc, ◌+◌, ◌^◌, ◌<◌, ◌≤◌, Bool, true, false, List, [], ◌∷◌, ◌++◌, map, length, drop, replicate, ℤ, pos, negsuc, Some, None, Ok, refl, ap, ◌∙◌, arith, lit<}
-use Rattle.std.proofs.lemmas.List.{length-append}
+use Rattle.std.proofs.Common.{◌≡◌, ℕ, zero, suc, ◌+◌, ◌^◌, ◌<◌, ◌≤◌, Bool, true, false, List, [], ◌∷◌, ◌++◌, map, length, drop, replicate, ℤ, pos, negsuc, Some, None, Ok, sym, refl, ap, ◌∙◌, arith, lit<}
+use Rattle.std.proofs.lemmas.List.{length-append, length-map}
 use Rattle.std.proofs.lemmas.Bool.{cond-true}
 use Rattle.packet.specs.Packets.{header_like, filler}
 use Rattle.carrier.specs.Cells.{Cell, holds}
 use Rattle.record.specs.Kinds.{Kind}
-use Rattle.station.specs.declared.ramp.Ramp.{Ramp}
+use Rattle.station.specs.RampWords.{Ramp}
 use Rattle.station.specs.RampWords.{ramp_kind}
-use Rattle.station.specs.declared.clock.Clock.{Clock}
+use Rattle.station.specs.ClockWords.{Clock}
 use Rattle.station.specs.ClockWords.{clock_kind}
 use Rattle.label.specs.Headers.{header_packet}
 use Rattle.label.proofs.HeaderLaws.{header_like_lem}
@@ -17,12 +17,8 @@ use Rattle.reading.specs.Outcomes.{and_then, seen}
 use Rattle.reading.specs.Contents.{Ordered, Stations, packed, closing, timing, following}
 use Rattle.reading.specs.Reading.{opened, none, station_above, group, end_at, end_behind, summary_at, filler_at, end_from, Turn, ramps, clocks, end, ramps_above, clock_group, summary, end_packet, part, turn_to, turn, Rest, with_ramps, with_clocks, go_on, onward}
 use Rattle.reading.proofs.Groups.{Laws}
-use Rattle.reading.proofs.Openings.{Keyed, Within, opened_back, first_word, group_back, drop-packed, rows_back, drop_rows, filler_back, ramp_key, clock_key, summary_key, end_key}
-use Rattle.reading.proofs.Turns.{last_of, holds-append}
-
-pub length-packed : {R : Type 0} (κ : Kind R) (xs : List R) → length (packed κ xs) ≡ length xs
-length-packed κ [] = refl
-length-packed κ (x ∷ xs) = ap suc (length-packed κ xs)
+use Rattle.reading.proofs.Openings.{Keyed, Within, opened_back, first_word, group_back, behind_laid, rows_back, filler_back, ramp_key, clock_key, summary_key, end_key}
+use Rattle.reading.proofs.Turns.{last_of, drop_one_more, holds-append}
 
 pub none_within : Within none 0
 none_within = record { least = omega arith; most = omega arith; lowest = omega arith }
@@ -75,14 +71,14 @@ summary-part Closed = refl
 clock_part : (stage : Stage) (last : ℕ) → last_of stage ≡ Some last → part stage 2040 ≡ clock_group
 clock_part Orbits last e = refl
 clock_part (Ramps s) last e = refl
-clock_part Clocks last e = let z : ◌≡◌ {A = ℕ} 0 1 = cc in absurd (omega arith)
-clock_part Closed last e = let z : ◌≡◌ {A = ℕ} 0 1 = cc in absurd (omega arith)
+clock_part Clocks last e = absurd cc
+clock_part Closed last e = absurd cc
 
 ramp_part : (stage : Stage) (last : ℕ) → last_of stage ≡ Some last → part stage 2030 ≡ ramps_above last
 ramp_part Orbits last e = let q : 0 ≡ last = cc in ap ramps_above q
 ramp_part (Ramps s) last e = let q : s ≡ last = cc in ap ramps_above q
-ramp_part Clocks last e = let z : ◌≡◌ {A = ℕ} 0 1 = cc in absurd (omega arith)
-ramp_part Closed last e = let z : ◌≡◌ {A = ℕ} 0 1 = cc in absurd (omega arith)
+ramp_part Clocks last e = absurd cc
+ramp_part Closed last e = absurd cc
 
 turn_at : (stage : Stage) (rows : List (List ℕ)) (k : ℕ) (key : ℤ) (w s len : ℕ) (cs : List Cell) → Keyed key w → s < 2 ^ 32 → len < 2 ^ 32 → k < 2 ^ 32 → turn stage rows k (holds (header_packet key s len k) ∷ cs) ≡ turn_to rows k (holds (header_packet key s len k) ∷ cs) (part stage w)
 turn_at stage rows k key w s len cs y a b c =
@@ -100,16 +96,12 @@ behind_back k ds h = cond-true _ _ _ (header_like_lem (negsuc 0) 0 0 k end_key.f
 summary_back : (rows : List (List ℕ)) (k : ℕ) (ds : List Cell) → suc k + length rows < 2 ^ 32 → summary_at rows k (holds (header_packet (pos 105) 0 1 k) ∷ (map holds rows ++ holds (header_packet (negsuc 0) 0 0 (suc k + length rows)) ∷ ds)) ≡ Ok 0
 summary_back rows k ds h =
     let es = holds (header_packet (negsuc 0) 0 0 (suc k + length rows)) ∷ ds in
-    rw (opened_back (pos 105) 105 0 1 none k summary_key (lit< tt) (lit< tt) (omega arith) none_within, rows_back (suc k) rows es, drop_rows rows es)
+    rw (opened_back (pos 105) 105 0 1 none k summary_key (lit< tt) (lit< tt) (omega arith) none_within, rows_back (suc k) rows es, behind_laid rows (length rows) es refl)
     (behind_back (suc k + length rows) ds h)
 
 -- the answer where the turn is known
 pub turned : (f : ℕ) (stage : Stage) (rows : List (List ℕ)) (k : ℕ) (cs : List Cell) (t : Turn) → turn stage rows k cs ≡ Ok t → onward (suc f) stage rows k cs ≡ go_on (λ st j ds. onward f st rows j ds) rows k cs t
 turned f stage rows k cs t e = ap (λ v. and_then v (go_on (λ st j ds. onward f st rows j ds) rows k cs)) e
-
-drop_rows_one : (rows : List (List ℕ)) (c : Cell) (es : List Cell) → drop (suc (length rows)) (map holds rows ++ c ∷ es) ≡ es
-drop_rows_one [] c es = refl
-drop_rows_one (r ∷ rows) c es = drop_rows_one rows c es
 
 abbrev ended : Bool → Unit {0} → Rest
 ended s u = record { summary = s; ramps = []; clocks = [] }
@@ -132,7 +124,7 @@ closing_back f stage rows k true m h =
     let t : turn stage rows k cs ≡ Ok (end true) = turn_at stage rows k (pos 105) 105 0 1 ds summary_key (lit< tt) (lit< tt) (omega arith) ∙ ap (turn_to rows k cs) (summary-part stage) ∙ ap (seen (λ _. end true)) (summary_back rows k rest (omega arith)) in
     ap (onward (suc f) stage rows k) split
     ∙ turned f stage rows k cs (end true) t
-    ∙ ap (λ v. seen (ended true) (filler_at (suc (end_from true rows k)) v)) (drop_rows_one rows (holds e) rest)
+    ∙ ap (λ v. seen (ended true) (filler_at (suc (end_from true rows k)) v)) (sym (drop_one_more (length rows) (map holds rows ++ holds e ∷ rest)) ∙ ap (drop 1) (behind_laid rows _ (holds e ∷ rest) refl))
     ∙ ap (seen (ended true)) (filler_back (suc (end_from true rows k)) m)
 
 -- a group that is laid, and what follows it
@@ -150,7 +142,7 @@ timing_back l f stage last rows k (y ∷ ys) s m o h n =
     let head = header_packet (pos 2040) 0 1 k in
     let ds = map holds (packed clock_kind xs) ++ (map holds ps ++ rest) in
     let a : length (packed clock_kind xs ++ ps) ≡ length (packed clock_kind xs) + length ps = length-append (packed clock_kind xs) ps in
-    let b : length (packed clock_kind xs) ≡ length xs = length-packed clock_kind xs in
+    let b : length (packed clock_kind xs) ≡ length xs = length-map xs _ in
     let c : k + suc (length (packed clock_kind xs ++ ps)) ≤ 2 ^ 32 = n in
     let split : map holds (timing xs s rows k) ++ rest ≡ holds head ∷ ds = ap (λ v. holds head ∷ v) (holds-append (packed clock_kind xs) ps rest) in
     let some : 0 < length ps = closing_some s rows (suc k + length xs) in
@@ -158,7 +150,7 @@ timing_back l f stage last rows k (y ∷ ys) s m o h n =
     let t : turn stage rows k (holds head ∷ ds) ≡ Ok (clocks (0, xs)) = turn_at stage rows k (pos 2040) 2040 0 1 ds clock_key (lit< tt) (lit< tt) (omega arith) ∙ ap (turn_to rows k (holds head ∷ ds)) (clock_part stage last o) ∙ ap (seen clocks) g in
     ap (onward (suc (suc f)) stage rows k) split
     ∙ turned (suc f) stage rows k (holds head ∷ ds) (clocks (0, xs)) t
-    ∙ ap (λ v. seen (with_clocks xs) (onward (suc f) Clocks rows (suc k + length xs) v)) (drop-packed clock_kind xs (map holds ps ++ rest))
+    ∙ ap (λ v. seen (with_clocks xs) (onward (suc f) Clocks rows (suc k + length xs) v)) (behind_laid (packed clock_kind xs) _ (map holds ps ++ rest) (sym (length-map xs _)))
     ∙ ap (seen (with_clocks xs)) (closing_back f Clocks rows (suc k + length xs) s m (omega arith))
 
 pub onward_back : Laws ramp_kind → Laws clock_kind → (f : ℕ) (stage : Stage) (last : ℕ) (rows : List (List ℕ)) (k : ℕ) (gs : List (ℕ × List Ramp)) (xs : List Clock) (s : Bool) (m : ℕ) → last_of stage ≡ Some last → Stations last gs → Ordered clock_kind 0 0 xs → length gs + 2 ≤ f → k + length (following gs xs s rows k) ≤ 2 ^ 32 → onward f stage rows k (map holds (following gs xs s rows k) ++ replicate m (holds filler)) ≡ Ok (record { summary = s; ramps = gs; clocks = xs })
@@ -172,7 +164,7 @@ onward_back lr lc (suc (suc f)) stage last rows k (a ∷ gs) xs s m o g h q n =
     let head = header_packet (pos 2030) a.0 1 k in
     let ds = map holds (packed ramp_kind rs) ++ (map holds ps ++ rest) in
     let l : length (packed ramp_kind rs ++ ps) ≡ length (packed ramp_kind rs) + length ps = length-append (packed ramp_kind rs) ps in
-    let b : length (packed ramp_kind rs) ≡ length rs = length-packed ramp_kind rs in
+    let b : length (packed ramp_kind rs) ≡ length rs = length-map rs _ in
     let c : k + suc (length (packed ramp_kind rs ++ ps)) ≤ 2 ^ 32 = n in
     let low : last < a.0 = g.0 in
     let high : a.0 ≤ 1023 = g.1 in
@@ -184,5 +176,5 @@ onward_back lr lc (suc (suc f)) stage last rows k (a ∷ gs) xs s m o g h q n =
     let t : turn stage rows k (holds head ∷ ds) ≡ Ok (ramps (a.0, rs)) = turn_at stage rows k (pos 2030) 2030 a.0 1 ds ramp_key (omega arith) (lit< tt) (omega arith) ∙ ap (turn_to rows k (holds head ∷ ds)) (ramp_part stage last o) ∙ ap (seen ramps) e in
     ap (onward (suc (suc f)) stage rows k) split
     ∙ turned (suc f) stage rows k (holds head ∷ ds) (ramps (a.0, rs)) t
-    ∙ ap (λ v. seen (with_ramps (a.0, rs)) (onward (suc f) (Ramps a.0) rows (suc k + length rs) v)) (drop-packed ramp_kind rs (map holds ps ++ rest))
+    ∙ ap (λ v. seen (with_ramps (a.0, rs)) (onward (suc f) (Ramps a.0) rows (suc k + length rs) v)) (behind_laid (packed ramp_kind rs) _ (map holds ps ++ rest) (sym (length-map rs _)))
     ∙ ap (seen (with_ramps (a.0, rs))) (onward_back lr lc (suc f) (Ramps a.0) a.0 rows (suc k + length rs) gs xs s m refl g.4 h (omega arith) (omega arith))

@@ -2,9 +2,9 @@
 use Rattle.std.proofs.Common.{◌≡◌, ℕ, zero, suc, ◌+◌, ◌≤◌, Bool, true, false, List, [], ◌∷◌, ◌++◌, map, length, drop, replicate, pos, Some, None, Ok, Option, sym, refl, ap, ◌∙◌, subst, arith}
 use Rattle.packet.specs.Packets.{filler}
 use Rattle.carrier.specs.Cells.{Cell, holds, Whole}
-use Rattle.station.specs.declared.ramp.Ramp.{Ramp}
+use Rattle.station.specs.RampWords.{Ramp}
 use Rattle.station.specs.RampWords.{ramp_kind}
-use Rattle.station.specs.declared.clock.Clock.{Clock}
+use Rattle.station.specs.ClockWords.{Clock}
 use Rattle.station.specs.ClockWords.{clock_kind}
 use Rattle.label.specs.Headers.{header_packet}
 use Rattle.reading.specs.declared.walk.Stage.{Stage}
@@ -14,7 +14,8 @@ use Rattle.reading.specs.Reading.{none, station_above, filler_at, end_from, endi
 use Rattle.reading.proofs.Steps.{never, then_ok, seen_ok}
 use Rattle.reading.proofs.Groups.{Laws}
 use Rattle.reading.proofs.Openings.{Grouped, group_is, filler_is, ramp_key, clock_key}
-use Rattle.reading.proofs.Turns.{last_of, Turned, turn_is, zero_key, end_is, summary_is, whole_drop, holds-append}
+use Rattle.carrier.proofs.Rows.{whole_drop}
+use Rattle.reading.proofs.Turns.{last_of, Turned, turn_is, zero_key, end_is, summary_is, holds-append}
 
 -- the groups that may follow where ramps may, those of stations above the last, and where they may not
 abbrev pub Follows : Option ℕ → List (ℕ × List Ramp) → List Clock → Type 0

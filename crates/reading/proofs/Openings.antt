@@ -1,5 +1,7 @@
 -- Headers, groups, summary rows and filler: what is read is what was laid.
 use Rattle.std.proofs.Common.{◌≡◌, ℕ, zero, suc, ◌+◌, ◌^◌, ◌<◌, ◌≤◌, true, ◌&&◌, eqb, ltb, List, [], ◌∷◌, ◌++◌, map, length, get_or, drop, replicate, ℤ, pos, negsuc, Ok, Option, sym, refl, ap, ◌∙◌, subst, arith, lit<, w32, SFits, to_z, of_z}
+use Rattle.std.proofs.Math.Seq.{drop-append_seam}
+use Rattle.std.proofs.lemmas.List.{length-map}
 use Rattle.std.proofs.lemmas.Int.{of_z-to_z}
 use Rattle.std.proofs.lemmas.Bool.{and_parts, and_from, eqb-true, eq-eqb, ltb-false, le-ltb}
 use Rattle.std.specs.Str.{bytes_eq}
@@ -105,9 +107,9 @@ pub group_back : {R : Type 0} (κ : Kind R) → Laws κ → (key : ℤ) (w least
 group_back κ l key w least b owner k s xs q ds y hs hk i o m t =
     rw (opened_back key w s 1 b k y hs (lit< tt) hk i, records_back κ l (owner_of owner s) (suc k) 0 xs q ds o t, le-ltb (length xs) least m) refl
 
-pub drop-packed : {R : Type 0} (κ : Kind R) (xs : List R) (es : List Cell) → drop (length xs) (map holds (packed κ xs) ++ es) ≡ es
-drop-packed κ [] es = refl
-drop-packed κ (x ∷ xs) es = drop-packed κ xs es
+-- what stands behind packets that were laid
+pub behind_laid : (ps : List (List ℕ)) (n : ℕ) (es : List Cell) → n ≡ length ps → drop n (map holds ps ++ es) ≡ es
+behind_laid ps n es h = ap (λ v. drop v (map holds ps ++ es)) (h ∙ sym (length-map ps holds)) ∙ drop-append_seam (map holds ps) es
 
 -- the rows of the summary
 pub rows_is : (k : ℕ) (rows : List (List ℕ)) (cs : List Cell) (u : Unit {0}) → rows_at k rows cs ≡ Ok u → cs ≡ map holds rows ++ drop (length rows) cs
@@ -123,10 +125,6 @@ rows_is k (r ∷ rows) (holds p ∷ cs) u e =
 pub rows_back : (k : ℕ) (rows : List (List ℕ)) (ds : List Cell) → rows_at k rows (map holds rows ++ ds) ≡ Ok tt
 rows_back k [] ds = refl
 rows_back k (r ∷ rows) ds = rw (same_refl r, rows_back (suc k) rows ds) refl
-
-pub drop_rows : (rows : List (List ℕ)) (es : List Cell) → drop (length rows) (map holds rows ++ es) ≡ es
-drop_rows [] es = refl
-drop_rows (r ∷ rows) es = drop_rows rows es
 
 -- filler to the end
 pub filler_is : (k : ℕ) (cs : List Cell) (u : Unit {0}) → filler_at k cs ≡ Ok u → cs ≡ replicate (length cs) (holds filler)

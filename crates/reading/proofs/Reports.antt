@@ -1,26 +1,25 @@
 -- The report that a walk comes to, one group after another.
-use Rattle.std.proofs.Common.{◌≡◌, ℕ, zero, suc, ◌+◌, ◌≤◌, Bool, true, false, List, [], ◌∷◌, length, drop, None, Ok, Err, Result, sym, refl, ap, ◌∙◌, add-zero, arith}
+use Rattle.std.proofs.Common.{◌≡◌, ℕ, zero, suc, ◌+◌, ◌≤◌, Bool, true, false, List, [], ◌∷◌, length, drop, None, Ok, Err, Result, sym, refl, ap, ◌∙◌, add-zero, add-one, arith}
 use Rattle.std.proofs.lemmas.List.{drop-drop}
 use Rattle.std.proofs.lemmas.Bool.{ltb-false}
 use Rattle.carrier.specs.Cells.{Cell}
-use Rattle.station.specs.declared.ramp.Ramp.{Ramp}
-use Rattle.station.specs.declared.clock.Clock.{Clock}
+use Rattle.station.specs.RampWords.{Ramp}
+use Rattle.station.specs.ClockWords.{Clock}
 use Rattle.station.specs.ClockWords.{clock_kind}
 use Rattle.odf.specs.declared.fault.FileFault.{FileFault}
 use Rattle.odf.specs.declared.fault.FileFault.TheVariants.{Misplaced}
-use Rattle.reading.specs.declared.walk.Walk.{Walk}
 use Rattle.reading.specs.declared.walk.Stage.TheVariants.{Ramps, Clocks, Closed}
 use Rattle.reading.specs.Outcomes.{and_then, seen}
 use Rattle.reading.specs.Files.{ramp_count, row_count}
 use Rattle.reading.specs.Reading.{packet_at, none, opened, records, owner_of, enough, group, filler_at, end_from, ending, Turn, ramps, clocks, end, turn, Rest, with_ramps, with_clocks, go_on, onward}
-use Rattle.reading.specs.Walking.{advance, ramps_end, clocks_end, reported}
-use Rattle.reading.proofs.Steps.{never, then_ok, seen_ok, if_not}
+use Rattle.reading.specs.Walking.{Progress, rows_over, advance, stepped, ramps_end, clocks_end, reported, walked}
+use Rattle.reading.proofs.Steps.{never, then_ok, seen_ok, seen_err, if_not}
 use Rattle.reading.proofs.Turns.{Turned, turn_is}
 use Rattle.reading.proofs.Laying.{turned}
 
 last_turn : (f : ℕ) (rows : List (List ℕ)) (k : ℕ) (cs : List Cell) (t : Turn) (r : Rest) → Turned Clocks rows k cs t → go_on (λ st j ds. onward f st rows j ds) rows k cs t ≡ Ok r → (r.ramps ≡ []) × (r.clocks ≡ [])
-last_turn f rows k cs (ramps g) r t e = let q = t.1.0 in let z : ◌≡◌ {A = ℕ} 0 1 = cc in absurd (omega arith)
-last_turn f rows k cs (clocks g) r t e = let q = t.1.0 in let z : ◌≡◌ {A = ℕ} 0 1 = cc in absurd (omega arith)
+last_turn f rows k cs (ramps g) r t e = let q = t.1.0 in absurd cc
+last_turn f rows k cs (clocks g) r t e = let q = t.1.0 in absurd cc
 last_turn f rows k cs (end s) r t e =
     let a = seen_ok (λ _. record { summary = s; ramps = []; clocks = [] }) (filler_at (suc (end_from s rows k)) (drop (ending s rows) cs)) r e in
     (ap (λ v. v.ramps) (sym a.1.1), ap (λ v. v.clocks) (sym a.1.1))
@@ -44,16 +43,12 @@ group_some k cs g e =
     let n : length c.0 ≡ length g.1 = ap length q in
     omega arith
 
-pub seen_err : {A B E : Type 0} (f : A → B) (r : Result A E) (e : E) → Err e ≡ seen f r → r ≡ Err e
-seen_err f (Ok x) e h = never e _ h
-seen_err f (Err g) e h = let q : e ≡ g = cc in ap Err (sym q)
-
-pub kept-orbits : (w : Walk) (rows : List (List ℕ)) (t : Turn) → (advance w rows t).report.orbits ≡ w.report.orbits
+kept-orbits : (w : Progress) (rows : List (List ℕ)) (t : Turn) → (advance w rows t).report.orbits ≡ w.report.orbits
 kept-orbits w rows (ramps g) = refl
 kept-orbits w rows (clocks g) = refl
 kept-orbits w rows (end s) = refl
 
-module _ (w : Walk) (rows : List (List ℕ)) (cs : List Cell) (f : ℕ) where
+module _ (w : Progress) (rows : List (List ℕ)) (cs : List Cell) (f : ℕ) where
   abbrev k : ℕ
   k = w.report.end
 
@@ -87,7 +82,7 @@ module _ (w : Walk) (rows : List (List ℕ)) (cs : List Cell) (f : ℕ) where
   goes t = onward f (advance w rows t).stage rows (advance w rows t).report.end (drop (advance w rows t).report.end cs)
 
   -- a group was read that is not the end
-  pub walks-on : (t : Turn) → turn w.stage rows k (drop k cs) ≡ Ok t → ((advance w rows t).stage ≡ Closed → ⊥) → seen (reported (advance w rows t) rows) (goes t) ≡ seen (reported w rows) all
+  walks-on : (t : Turn) → turn w.stage rows k (drop k cs) ≡ Ok t → ((advance w rows t).stage ≡ Closed → ⊥) → seen (reported (advance w rows t) rows) (goes t) ≡ seen (reported w rows) all
   walks-on (ramps g) e h =
       sym (ap (seen (reported w rows)) (turned f w.stage rows k (drop k cs) (ramps g) e)
       ∙ with-ramps g (onward f (Ramps g.0) rows (suc k + length g.1) (drop (suc (length g.1)) (drop k cs)))
@@ -110,14 +105,41 @@ module _ (w : Walk) (rows : List (List ℕ)) (cs : List Cell) (f : ℕ) where
   seen-const f' x y (Err g) e = refl
 
   -- the end packet was read: filler has to follow
-  pub walks-out : (t : Turn) → turn w.stage rows k (drop k cs) ≡ Ok t → (advance w rows t).stage ≡ Closed → seen (reported w rows) all ≡ seen (λ _. (advance w rows t).report) (filler_at (suc (advance w rows t).report.end) (drop (suc (advance w rows t).report.end) cs))
-  walks-out (ramps g) e h = let z : ◌≡◌ {A = ℕ} 0 1 = cc in absurd (omega arith)
-  walks-out (clocks g) e h = let z : ◌≡◌ {A = ℕ} 0 1 = cc in absurd (omega arith)
+  walks-out : (t : Turn) → turn w.stage rows k (drop k cs) ≡ Ok t → (advance w rows t).stage ≡ Closed → seen (reported w rows) all ≡ seen (λ _. (advance w rows t).report) (filler_at (suc (advance w rows t).report.end) (drop (suc (advance w rows t).report.end) cs))
+  walks-out (ramps g) e h = absurd cc
+  walks-out (clocks g) e h = absurd cc
   walks-out (end s) e h =
       ap (seen (reported w rows)) (turned f w.stage rows k (drop k cs) (end s) e)
       ∙ seen-const (reported w rows) _ _ (filler_at (suc (end_from s rows k)) (drop (ending s rows) (drop k cs))) (same-report s)
       ∙ ap (λ v. seen (λ _. (advance w rows (end s)).report) (filler_at (suc (end_from s rows k)) v)) (past s)
 
   -- a group that is refused
-  pub walks-into : (e : FileFault) → turn w.stage rows k (drop k cs) ≡ Err e → seen (reported w rows) all ≡ Err e
+  walks-into : (e : FileFault) → turn w.stage rows k (drop k cs) ≡ Err e → seen (reported w rows) all ≡ Err e
   walks-into e h = ap (λ v. seen (reported w rows) (and_then v (go_on (λ st j ds. onward f st rows j ds) rows k (drop k cs)))) h
+
+-- the report of a walk at a turn: a group that is refused, the end packet, and another group
+module _ (w : Progress) (cs : List Cell) (n f : ℕ) (e : n ≡ suc f) where
+  abbrev all_rows : List (List ℕ)
+  all_rows = rows_over w.report.orbits cs
+
+  abbrev next : Result Turn FileFault
+  next = turn w.stage all_rows w.report.end (drop w.report.end cs)
+
+  pub walked_into : (x : FileFault) → Err x ≡ stepped w cs → Err x ≡ walked n w cs
+  walked_into x h = sym (ap (λ m. walked m w cs) e ∙ walks-into w all_rows cs f x (seen_err (advance w all_rows) next x h))
+
+  pub walked_out : (u v : Progress) → u ≡ v → Ok v ≡ stepped w cs → v.stage ≡ Closed → seen (λ _. u.report) (filler_at (u.report.end + 1) (drop (u.report.end + 1) cs)) ≡ walked n w cs
+  walked_out u v i h c =
+      let t = seen_ok (advance w all_rows) next v (sym h) in
+      ap (λ m. seen (λ _. u.report) (filler_at m (drop m cs))) (add-one u.report.end)
+      ∙ ap (λ x. seen (λ _. x.report) (filler_at (suc x.report.end) (drop (suc x.report.end) cs))) (i ∙ sym t.1.1)
+      ∙ sym (ap (λ m. walked m w cs) e ∙ walks-out w all_rows cs f t.0 t.1.0 (ap (λ x. x.stage) t.1.1 ∙ c))
+
+  pub walked_on : (v : Progress) → Ok v ≡ stepped w cs → (v.stage ≡ Closed → ⊥) → walked f v cs ≡ walked n w cs
+  walked_on v h c =
+      let t = seen_ok (advance w all_rows) next v (sym h) in
+      let a = advance w all_rows t.0 in
+      ap (λ u. walked f u cs) (sym t.1.1)
+      ∙ ap (λ o. seen (reported a (rows_over o cs)) (onward f a.stage (rows_over o cs) a.report.end (drop a.report.end cs))) (kept-orbits w all_rows t.0)
+      ∙ walks-on w all_rows cs f t.0 t.1.0 (λ q. c (ap (λ u. u.stage) (sym t.1.1) ∙ q))
+      ∙ ap (λ m. walked m w cs) (sym e)

@@ -1,5 +1,5 @@
 -- What an accepted step says of its parts.
-use Rattle.std.proofs.Common.{◌≡◌, ℕ, Bool, true, false, cond, List, [], ◌∷◌, drop, Ok, Err, Result, refl, ap, arith}
+use Rattle.std.proofs.Common.{◌≡◌, ℕ, Bool, true, false, cond, List, [], ◌∷◌, drop, Ok, Err, Result, sym, refl, ap}
 use Rattle.std.specs.Str.{bytes_eq}
 use Rattle.std.proofs.lemmas.Slice.Eq.{bytes_eq-Decides}
 use Rattle.carrier.specs.Cells.{Cell, holds, damaged}
@@ -8,7 +8,7 @@ use Rattle.reading.specs.Outcomes.{and_then, lifted, seen}
 use Rattle.reading.specs.Reading.{packet_at, joined}
 
 pub never : {A E : Type 0} {C : Type 0} (e : E) (x : A) → ◌≡◌ {A = Result A E} (Err e) (Ok x) → C
-never e x h = let z : ◌≡◌ {A = ℕ} 0 1 = cc in absurd (omega arith)
+never e x h = absurd cc
 
 pub then_ok : {A B E : Type 0} (r : Result A E) (f : A → Result B E) (y : B) → and_then r f ≡ Ok y → (x : A) × ((r ≡ Ok x) × (f x ≡ Ok y))
 then_ok (Ok x) f y h = (x, (refl, h))
@@ -21,6 +21,10 @@ lifted_ok f (Err e) x h = never (f e) x h
 pub seen_ok : {A B E : Type 0} (f : A → B) (r : Result A E) (y : B) → seen f r ≡ Ok y → (x : A) × ((r ≡ Ok x) × (f x ≡ y))
 seen_ok f (Ok x) y h = (x, (refl, cc))
 seen_ok f (Err e) y h = never e y h
+
+pub seen_err : {A B E : Type 0} (f : A → B) (r : Result A E) (e : E) → Err e ≡ seen f r → r ≡ Err e
+seen_err f (Ok x) e h = never e _ h
+seen_err f (Err g) e h = let q : e ≡ g = cc in ap Err (sym q)
 
 pub joined_ok : {A : Type 0} (x : A) (r : Result (List A) FileFault) (xs : List A) → joined x r ≡ Ok xs → (ys : List A) × ((r ≡ Ok ys) × (x ∷ ys ≡ xs))
 joined_ok x (Ok ys) xs h = (ys, (refl, cc))

@@ -1,31 +1,32 @@
 -- The law of reading.
 use Rattle.std.proofs.Common.{◌≡◌, ℕ, suc, ◌+◌, ◌-◌, ◌≤◌, Bool, true, false, List, [], ◌∷◌, ◌++◌, map, length, take, drop, replicate, pos, negsuc, Some, Ok, Err, Result, sym, refl, ap, ◌∙◌, subst, zero-add, arith}
-use Rattle.std.proofs.lemmas.List.{length-append, append-nil}
+use Rattle.std.proofs.Math.Seq.{take-append_seam}
+use Rattle.std.proofs.lemmas.List.{length-map, length-append, append-nil}
 use Rattle.packet.specs.Packets.{bytes_of, filler}
 use Rattle.carrier.specs.Cells.{Cell, holds, Whole}
 use Rattle.carrier.proofs.Rows.{whole_drop}
-use Rattle.orbit.specs.declared.orbit.Orbit.{Orbit}
+use Rattle.orbit.specs.Orbits.{Orbit}
 use Rattle.orbit.specs.Orbits.{orbit_kind}
-use Rattle.station.specs.declared.ramp.Ramp.{Ramp}
+use Rattle.station.specs.RampWords.{Ramp}
 use Rattle.station.specs.RampWords.{ramp_kind}
-use Rattle.station.specs.declared.clock.Clock.{Clock}
+use Rattle.station.specs.ClockWords.{Clock}
 use Rattle.station.specs.ClockWords.{clock_kind}
 use Rattle.label.specs.Headers.{header_packet}
-use Rattle.label.specs.declared.label.Label.{Label}
+use Rattle.label.specs.Labels.{Label}
 use Rattle.summary.specs.Found.{orbits_in}
 use Rattle.summary.proofs.FoundLaws.{orbits_back}
 use Rattle.odf.specs.declared.fault.FileFault.{FileFault}
 use Rattle.reading.specs.declared.report.Report.{Report}
+use Rattle.reading.specs.declared.walk.Group.{Group}
 use Rattle.reading.specs.declared.walk.Stage.TheVariants.{Orbits}
 use Rattle.reading.specs.Outcomes.{and_then, seen}
 use Rattle.reading.specs.Contents.{Contents, packed, closing, timing, following, filled}
 use Rattle.reading.specs.Files.{summary_rows, packets, FileOf, ramp_count, row_count, report_of, reads, answer, Judged, up_to_end, Telling}
 use Rattle.reading.specs.Reading.{none, group, end_from, Rest, opening, onward}
-use Rattle.reading.specs.Walking.{rows_over, ramps_end, clocks_end, start, reported}
-use Rattle.reading.proofs.Steps.{never}
+use Rattle.reading.specs.Walking.{counted, rows_over, ramps_end, clocks_end, start, reported, walked}
+use Rattle.reading.proofs.Steps.{never, seen_ok, seen_err}
 use Rattle.reading.proofs.Openings.{group_is, orbit_key}
 use Rattle.reading.proofs.Turns.{drop_one_more}
-use Rattle.reading.proofs.Laying.{length-packed}
 use Rattle.reading.proofs.Files.{orbits_lawful, reads_is, reads_back, length_laid}
 
 -- where the end packet stands
@@ -39,7 +40,7 @@ timing-end (x ∷ xs) s rows k =
     let j = suc k + length (x ∷ xs) in
     let e = closing_end s rows j in
     let n = length-append (packed clock_kind (x ∷ xs)) (closing s rows j) in
-    let m = length-packed clock_kind (x ∷ xs) in
+    let m : length (packed clock_kind (x ∷ xs)) ≡ length (x ∷ xs) = length-map (x ∷ xs) _ in
     let t : k + suc (length (packed clock_kind (x ∷ xs) ++ closing s rows j)) ≡ j + length (closing s rows j) = omega arith in
     t ∙ e
 
@@ -49,7 +50,7 @@ following-end (g ∷ gs) xs s rows k =
     let j = suc k + length g.1 in
     let e = following-end gs xs s rows j in
     let n = length-append (packed ramp_kind g.1) (following gs xs s rows j) in
-    let m = length-packed ramp_kind g.1 in
+    let m : length (packed ramp_kind g.1) ≡ length g.1 = length-map g.1 _ in
     let t : k + suc (length (packed ramp_kind g.1 ++ following gs xs s rows j)) ≡ j + length (following gs xs s rows j) = omega arith in
     t ∙ e
 
@@ -62,7 +63,7 @@ report_is c =
     let fs = following c.ramps c.clocks c.summary rows k in
     let e = following-end c.ramps c.clocks c.summary rows k in
     let n = length-append (packed orbit_kind xs) fs in
-    let m = length-packed orbit_kind xs in
+    let m : length (packed orbit_kind xs) ≡ length xs = length-map xs _ in
     let t : end_from c.summary rows (clocks_end c.clocks (ramps_end c.ramps k)) ≡ suc (suc (suc (suc (suc (length (packed orbit_kind xs ++ fs)))))) - 1 = omega arith in
     λ i. record { end = t i; orbits = length xs; groups = zero-add (length c.ramps) i; ramps = zero-add (ramp_count c.ramps) i; clocks = zero-add (length c.clocks) i; rows = row_count c.summary rows }
 
@@ -88,8 +89,8 @@ judged_by : (cs : List Cell) (r : Result Contents FileFault) → Whole cs → le
 judged_by cs (Ok c) w n e = (c, (e, read_file cs c w e, refl, λ d f. same_ok d c (sym (file_read cs d n f) ∙ e)))
 judged_by cs (Err x) w n e = λ c f. never x c (sym e ∙ file_read cs c n f)
 
-pub judged : (cs : List Cell) → Whole cs → length cs ≤ 1000000 → Judged cs (answer cs)
-judged cs w n = judged_by cs (reads cs) w n refl
+pub judged : (cs : List Cell) (r : Result Report FileFault) → Whole cs → length cs ≤ 1000000 → r ≡ answer cs → Judged cs r
+judged cs r w n a = subst (Judged cs) (sym a) (judged_by cs (reads cs) w n refl)
 
 take_laid : (xs : List Orbit) (ds : List Cell) → take (length xs) (map holds (packed orbit_kind xs) ++ ds) ≡ map (λ x. holds (bytes_of (orbit_kind.packed x))) xs
 take_laid [] ds = refl
@@ -106,8 +107,7 @@ rows_over_lem cs owner g w e =
 
 -- cells up to the end packet are the packets
 take_all_of : (ps : List (List ℕ)) (ds : List Cell) → take (length ps) (map holds ps ++ ds) ≡ map holds ps
-take_all_of [] ds = refl
-take_all_of (p ∷ ps) ds = ap (λ v. holds p ∷ v) (take_all_of ps ds)
+take_all_of ps ds = ap (λ n. take n (map holds ps ++ ds)) (sym (length-map ps holds)) ∙ take-append_seam (map holds ps) ds
 
 up_to_end_lem : (cs : List Cell) (c : Contents) → FileOf cs c → up_to_end (report_of c) cs ≡ map holds (packets c)
 up_to_end_lem cs c f =
@@ -139,25 +139,29 @@ then_err r f e h = ap (λ v. and_then v f) h
 then_on : {A B E : Type 0} (r : Result A E) (f : A → Result B E) (x : A) → r ≡ Ok x → and_then r f ≡ f x
 then_on r f x h = ap (λ v. and_then v f) h
 
-pub answer-label : (cs : List Cell) (e : FileFault) → opening cs ≡ Err e → answer cs ≡ Err e
-answer-label cs e h = ap (seen report_of) (then_err (opening cs) _ e h)
+pub answer_label : (cs : List Cell) (e : FileFault) → Err e ≡ opening cs → Err e ≡ answer cs
+answer_label cs e h = sym (ap (seen report_of) (then_err (opening cs) _ e (sym h)))
 
-module _ (cs : List Cell) (label : Label) (h : opening cs ≡ Ok label) where
-  abbrev orbits : Result (ℕ × List Orbit) FileFault
-  orbits = group orbit_kind 109 0 none (Some label.spacecraft) 4 (drop 4 cs)
+module _ (cs : List Cell) (label : Label) (owner : ℕ) (h : Ok label ≡ opening cs) (s : owner ≡ label.items.spacecraft) where
+  abbrev found : ℕ → Result (ℕ × List Orbit) FileFault
+  found o = group orbit_kind 109 0 none (Some o) 4 (drop 4 cs)
 
-  pub answer-orbits : (e : FileFault) → orbits ≡ Err e → answer cs ≡ Err e
-  answer-orbits e q = ap (seen report_of) (then_on (opening cs) _ label h ∙ then_err orbits _ e q)
+  pub answer_orbits : (e : FileFault) → Err e ≡ seen counted (found owner) → Err e ≡ answer cs
+  answer_orbits e q =
+      let r : found label.items.spacecraft ≡ Err e = ap found (sym s) ∙ seen_err counted (found owner) e q in
+      sym (ap (seen report_of) (then_on (opening cs) _ label (sym h) ∙ then_err (found label.items.spacecraft) _ e r))
 
   rest-report : (g : ℕ × List Orbit) (r : Result Rest FileFault) → seen (reported (start (length g.1)) (summary_rows g.1)) r ≡ seen report_of (seen (λ x. record { label = label; summary = x.summary; orbits = g.1; ramps = x.ramps; clocks = x.clocks }) r)
   rest-report g (Ok x) = ap Ok (report_is (record { label = label; summary = x.summary; orbits = g.1; ramps = x.ramps; clocks = x.clocks }))
   rest-report g (Err e) = refl
 
-  pub answer-rest : (g : ℕ × List Orbit) (n : ℕ) → Whole cs → orbits ≡ Ok g → length g.1 ≡ n → seen (reported (start n) (rows_over n cs)) (onward (length cs) Orbits (rows_over n cs) (5 + n) (drop (5 + n) cs)) ≡ answer cs
-  answer-rest g n w q m =
+  pub answer_rest : (o : Group) → Whole cs → Ok o ≡ seen counted (found owner) → walked (length cs) (start o.records) cs ≡ answer cs
+  answer_rest o w q =
+      let t = seen_ok counted (found owner) o (sym q) in
+      let g = t.0 in
+      let r : found label.items.spacecraft ≡ Ok g = ap found (sym s) ∙ t.1.0 in
       let k = length g.1 in
-      let rows = summary_rows g.1 in
-      ap (λ v. seen (reported (start v) (rows_over v cs)) (onward (length cs) Orbits (rows_over v cs) (5 + v) (drop (5 + v) cs))) (sym m)
-      ∙ ap (λ v. seen (reported (start k) v) (onward (length cs) Orbits v (5 + k) (drop (5 + k) cs))) (rows_over_lem cs label.spacecraft g w q)
-      ∙ rest-report g (onward (length cs) Orbits rows (5 + k) (drop (5 + k) cs))
-      ∙ sym (ap (seen report_of) (then_on (opening cs) _ label h ∙ then_on orbits _ g q))
+      ap (λ v. walked (length cs) (start v.records) cs) (sym t.1.1)
+      ∙ ap (λ v. seen (reported (start k) v) (onward (length cs) Orbits v (5 + k) (drop (5 + k) cs))) (rows_over_lem cs label.items.spacecraft g w r)
+      ∙ rest-report g (onward (length cs) Orbits (summary_rows g.1) (5 + k) (drop (5 + k) cs))
+      ∙ sym (ap (seen report_of) (then_on (opening cs) _ label (sym h) ∙ then_on (found label.items.spacecraft) _ g r))

@@ -1,8 +1,9 @@
 -- The groups behind the orbit records: what is read is what was laid.
-use Rattle.std.proofs.Common.{◌≡◌, ℕ, zero, suc, ◌+◌, true, false, cond, eqb, List, [], ◌∷◌, ◌++◌, map, length, drop, pos, negsuc, Some, None, Ok, Option, sym, refl, ap, ◌∙◌, subst, inl, inr, arith}
-use Rattle.std.proofs.lemmas.Bool.{cases_Bool}
+use Rattle.std.proofs.Common.{◌≡◌, ℕ, zero, suc, ◌+◌, true, false, cond, eqb, List, [], ◌∷◌, ◌++◌, map, length, drop, pos, negsuc, Some, None, Ok, Option, sym, refl, ap, ◌∙◌, subst, arith}
+use Rattle.std.proofs.lemmas.Bool.Decides.{nat_tests}
 use Rattle.packet.specs.Packets.{word, header_like}
 use Rattle.carrier.specs.Cells.{Cell, holds, damaged, Proper, Whole}
+use Rattle.carrier.proofs.Rows.{whole_drop}
 use Rattle.station.specs.RampWords.{ramp_kind}
 use Rattle.station.specs.ClockWords.{clock_kind}
 use Rattle.label.specs.Headers.{header_packet}
@@ -29,45 +30,18 @@ Turned stage rows k cs (end true) = (s : ℕ) × (summary_at rows k cs ≡ Ok s)
 Turned stage rows k cs (end false) = (s : ℕ) × (end_at k cs ≡ Ok s)
 
 closing-none : (key last : ℕ) → closing_part key ≡ ramps_above last → ⊥
-closing-none key last e =
-    elim (cases_Bool (eqb key 105)) [
-      | inl a ↦ let z : summary ≡ ramps_above last = rw a at e in let q : ◌≡◌ {A = ℕ} 0 1 = cc in absurd (omega arith)
-      | inr a ↦
-          elim (cases_Bool (eqb key 4294967295)) [
-            | inl b ↦ let z : end_packet ≡ ramps_above last = rw b at (rw a at e) in let q : ◌≡◌ {A = ℕ} 0 1 = cc in absurd (omega arith)
-            | inr b ↦ let z : nothing ≡ ramps_above last = rw b at (rw a at e) in let q : ◌≡◌ {A = ℕ} 0 1 = cc in absurd (omega arith)
-          ]
-    ]
+closing-none key last e = grind (arith, nat_tests)
 
 closing_timed : (key : ℕ) → closing_part key ≡ clock_group → ⊥
-closing_timed key e =
-    elim (cases_Bool (eqb key 105)) [
-      | inl a ↦ let z : summary ≡ clock_group = rw a at e in let q : ◌≡◌ {A = ℕ} 0 1 = cc in absurd (omega arith)
-      | inr a ↦
-          elim (cases_Bool (eqb key 4294967295)) [
-            | inl b ↦ let z : end_packet ≡ clock_group = rw b at (rw a at e) in let q : ◌≡◌ {A = ℕ} 0 1 = cc in absurd (omega arith)
-            | inr b ↦ let z : nothing ≡ clock_group = rw b at (rw a at e) in let q : ◌≡◌ {A = ℕ} 0 1 = cc in absurd (omega arith)
-          ]
-    ]
+closing_timed key e = grind (arith, nat_tests)
 
-timing-none : (key last : ℕ) → timing_part key ≡ ramps_above last → ⊥
-timing-none key last e =
-    elim (cases_Bool (eqb key 2040)) [
-      | inl a ↦ let z : clock_group ≡ ramps_above last = rw a at e in let q : ◌≡◌ {A = ℕ} 0 1 = cc in absurd (omega arith)
-      | inr a ↦ closing-none key last (rw a at e)
-    ]
-
-first-ramps : (s key last : ℕ) → cond (eqb key 2030) (ramps_above s) (timing_part key) ≡ ramps_above last → ◌≡◌ {A = Option ℕ} (Some s) (Some last)
-first-ramps s key last e =
-    elim (cases_Bool (eqb key 2030)) [
-      | inl a ↦ let z : ramps_above s ≡ ramps_above last = rw a at e in let q : s ≡ last = cc in ap Some q
-      | inr a ↦ absurd (timing-none key last (rw a at e))
-    ]
+first-ramps : (s key last : ℕ) → cond (eqb key 2030) (ramps_above s) (timing_part key) ≡ ramps_above last → s ≡ last
+first-ramps s key last e = grind (arith, nat_tests)
 
 -- ramps above a station, where it was the last; clock offsets, where ramps may follow too
 pub part-ramps : (stage : Stage) (key last : ℕ) → part stage key ≡ ramps_above last → last_of stage ≡ Some last
-part-ramps Orbits key last e = first-ramps 0 key last e
-part-ramps (Ramps s) key last e = first-ramps s key last e
+part-ramps Orbits key last e = ap Some (first-ramps 0 key last e)
+part-ramps (Ramps s) key last e = ap Some (first-ramps s key last e)
 part-ramps Clocks key last e = absurd (closing-none key last e)
 part-ramps Closed key last e = absurd (closing-none key last e)
 
@@ -115,11 +89,6 @@ behind_is k (damaged b ∷ cs) s w e = never _ s e
 behind_is k (holds p ∷ cs) s w e =
     let a = if_so (header_like p) (opened 4294967295 0 none k p) (WrongRow k) s e in
     ap (λ v. holds v ∷ cs) (end-opened k p s w.0 a.1)
-
-pub whole_drop : (cs : List Cell) (k : ℕ) → Whole cs → Whole (drop k cs)
-whole_drop cs zero w = w
-whole_drop [] (suc k) w = tt
-whole_drop (c ∷ cs) (suc k) w = whole_drop cs k w.1
 
 pub holds-append : (xs ys : List (List ℕ)) (ds : List Cell) → map holds (xs ++ ys) ++ ds ≡ map holds xs ++ (map holds ys ++ ds)
 holds-append [] ys ds = refl

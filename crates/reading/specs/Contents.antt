@@ -3,13 +3,13 @@ use Rattle.std.specs.Prelude.{◌≡◌, ℕ, suc, ◌+◌, ◌-◌, ◌<◌, �
 use Rattle.packet.specs.Packets.{bytes_of, filler}
 use Rattle.carrier.specs.Cells.{Cell, holds}
 use Rattle.record.specs.Kinds.{Kind}
-use Rattle.orbit.specs.declared.orbit.Orbit.{Orbit}
+use Rattle.orbit.specs.Orbits.{Orbit}
 use Rattle.orbit.specs.Orbits.{orbit_kind}
-use Rattle.station.specs.declared.ramp.Ramp.{Ramp}
+use Rattle.station.specs.RampWords.{Ramp}
 use Rattle.station.specs.RampWords.{ramp_kind}
-use Rattle.station.specs.declared.clock.Clock.{Clock}
+use Rattle.station.specs.ClockWords.{Clock}
 use Rattle.station.specs.ClockWords.{clock_kind}
-use Rattle.label.specs.declared.label.Label.{Label}
+use Rattle.label.specs.Labels.{Label}
 use Rattle.label.specs.LabelRules.{label_words}
 use Rattle.label.specs.Labels.{items_of}
 use Rattle.label.specs.Headers.{header_packet}
@@ -35,7 +35,7 @@ Stations last (g ∷ gs) = (last < g.0) × (g.0 ≤ 1023) × (0 < length g.1) ×
 
 -- contents that a file can have
 pub record Lawful (c : Contents) : Type 0 where
-  pub orbits : Ordered orbit_kind c.label.spacecraft 0 c.orbits
+  pub orbits : Ordered orbit_kind c.label.items.spacecraft 0 c.orbits
   pub ramps : Stations 0 c.ramps
   pub clocks : Ordered clock_kind 0 0 c.clocks
 

@@ -1,8 +1,8 @@
 -- Files: the packets of contents, and the answer of reading.
 use Rattle.std.specs.Prelude.{◌≡◌, ℕ, suc, ◌+◌, ◌-◌, ◌≤◌, Bool, true, false, List, [], ◌∷◌, map, length, take, Some, None, Ok, Err, Option, Result}
 use Rattle.carrier.specs.Cells.{Cell}
-use Rattle.orbit.specs.declared.orbit.Orbit.{Orbit}
-use Rattle.station.specs.declared.ramp.Ramp.{Ramp}
+use Rattle.orbit.specs.Orbits.{Orbit}
+use Rattle.station.specs.RampWords.{Ramp}
 use Rattle.summary.specs.Rows.{rows_of}
 use Rattle.summary.specs.RowWords.{row_packet}
 use Rattle.summary.specs.SummaryKeys.{summary_of, summary_lt}

@@ -7,13 +7,13 @@ use Rattle.carrier.specs.declared.fault.CarrierFault.TheVariants.{Damaged}
 use Rattle.record.specs.declared.fault.RecordFault.{RecordFault}
 use Rattle.record.specs.declared.fault.RecordFault.TheVariants.{InCarrier, BadItem}
 use Rattle.record.specs.Kinds.{Kind, plain, owned}
-use Rattle.orbit.specs.declared.orbit.Orbit.{Orbit}
+use Rattle.orbit.specs.Orbits.{Orbit}
 use Rattle.orbit.specs.Orbits.{orbit_kind}
-use Rattle.station.specs.declared.ramp.Ramp.{Ramp}
+use Rattle.station.specs.RampWords.{Ramp}
 use Rattle.station.specs.RampWords.{ramp_kind}
-use Rattle.station.specs.declared.clock.Clock.{Clock}
+use Rattle.station.specs.ClockWords.{Clock}
 use Rattle.station.specs.ClockWords.{clock_kind}
-use Rattle.label.specs.declared.label.Label.{Label}
+use Rattle.label.specs.Labels.{Label}
 use Rattle.label.specs.LabelRules.{bad_label, label_of}
 use Rattle.label.specs.Labels as labels
 use Rattle.label.specs.Headers.{headed}
@@ -207,6 +207,6 @@ opening cs =
 abbrev pub reads_by : (List Orbit → List (List ℕ)) → List Cell → Result Contents FileFault
 reads_by rows_for cs =
     and_then (opening cs) (λ label.
-    and_then (group orbit_kind 109 0 none (Some label.spacecraft) 4 (drop 4 cs)) (λ g.
+    and_then (group orbit_kind 109 0 none (Some label.items.spacecraft) 4 (drop 4 cs)) (λ g.
     seen (λ r. record { label = label; summary = r.summary; orbits = g.1; ramps = r.ramps; clocks = r.clocks })
     (onward (length cs) Orbits (rows_for g.1) (5 + length g.1) (drop (5 + length g.1) cs))))

@@ -2,6 +2,7 @@
 ghost use Rattle.std.specs.Prelude.{◌≡◌, ◌<◌, ◌&&◌, length, drop, OnOk, ◌==◌};
 ghost use Rattle.std.specs.Str.{bytes_eq};
 ghost use Rattle.packet.specs.Packets.{word, header_like};
+ghost use Rattle.reading.specs.Outcomes.{and_then};
 ghost use Rattle.reading.specs.Reading.{packet_at, opened, filler_at};
 
 use crate::walk::Bounds;
@@ -12,6 +13,7 @@ use odf::pick::packet_at;
 use packet::{FILLER, Packet, is_header_like, words_of};
 
 /// The packet of cell `k`; where there is none, the file ends too early.
+#[tactic(auto, using(crate::proofs::Walks::past_end, crate::proofs::Walks::held, crate::proofs::Walks::faulty))]
 pub(crate) fn next_packet<C: Carrier>(carrier: &C, k: usize) -> Result<Packet, FileFault>
     ensures answer { result ≡ packet_at k (drop k (C.Carrier.cells carrier.now)) }
     ensures within { OnOk result ((k < length (C.Carrier.cells carrier.now)) × (k < 1000000)) }
@@ -22,21 +24,15 @@ pub(crate) fn next_packet<C: Carrier>(carrier: &C, k: usize) -> Result<Packet, F
     Ok(packet_at(carrier, k)?)
 }
 
-/// Whether two packets are equal.
-pub(crate) fn is_same(left: &Packet, right: &Packet) -> bool
-    ensures { result ≡ bytes_eq left.now right.now }
-{
-    *left == *right
-}
-
 /// Whether a packet is header-like and has this key.
+#[tactic(auto, using(packet::proofs::PacketLaws::words_at))]
 fn is_header(packet: &Packet, key: u32) -> bool
     ensures { result ≡ (header_like packet.now && word packet.now 1 == key) }
 {
     is_header_like(packet) && words_of(packet)[0] == key
 }
 
-/// The secondary key of packet `k`, which has to be the header with this key.
+/// The secondary key of this packet, which is packet `k` and has to be the header with this key.
 pub(crate) fn open_header(
     packet: &Packet,
     k: usize,
@@ -56,13 +52,29 @@ pub(crate) fn open_header(
     Ok(secondary)
 }
 
+/// The secondary key of packet `k`, which has to be the header with this key.
+pub(crate) fn header_at<C: Carrier>(
+    carrier: &C,
+    k: usize,
+    key: u32,
+    record_length: u32,
+    bounds: Bounds,
+) -> Result<u32, FileFault>
+    ensures answer { result ≡ and_then (packet_at k (drop k (C.Carrier.cells carrier.now))) (opened key record_length bounds k) }
+    ensures within { OnOk result ((k < length (C.Carrier.cells carrier.now)) × (k < 1000000)) }
+{
+    let packet = next_packet(carrier, k)?;
+    open_header(&packet, k, key, record_length, bounds)
+}
+
 /// Every cell from cell `first` on has to be filler.
+#[tactic(auto, using(crate::proofs::Walks::filler_stop, crate::proofs::Walks::filler_wrong, crate::proofs::Walks::filler_on))]
 pub(crate) fn check_filler<C: Carrier>(carrier: &C, first: usize) -> Result<(), FileFault>
     ensures { result ≡ filler_at first (drop first (C.Carrier.cells carrier.now)) }
 {
     for k in first..carrier.count() {
         let packet = next_packet(carrier, k)?;
-        if !is_same(&packet, &FILLER) {
+        if packet != FILLER {
             return Err(FileFault::NotFiller { packet: k });
         }
     }

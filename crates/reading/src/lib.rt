@@ -3,9 +3,10 @@
 
 mod cells;
 mod group;
+mod keys;
 mod opening;
 mod passing;
 pub mod read;
 pub mod report;
 mod rows;
-pub mod walk;
+mod walk;

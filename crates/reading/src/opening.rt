@@ -3,24 +3,17 @@ ghost use Rattle.std.specs.Prelude.{◌≡◌, drop};
 ghost use Rattle.record.specs.Kinds.{plain};
 ghost use Rattle.label.specs.Identifiers.{bad_identifier};
 ghost use Rattle.label.specs.Labels.{unpacked, bad};
-ghost use Rattle.reading.specs.Reading.{data_at, header_at, identified, data_packet, opening};
+ghost use Rattle.reading.specs.Reading.{data_at, identified, data_packet, opening};
 
-use crate::cells::{next_packet, open_header};
-use crate::passing::NONE;
+use crate::cells::{header_at, next_packet};
+use crate::keys::{IDENTIFIER, LABEL};
+use crate::walk::Bounds;
 use carrier::Carrier;
 use label::identifier::check_identifier;
-use label::label::Label;
+use label::label::{Label, LabelItems};
 use odf::fault::FileFault;
 use packet::{Packet, is_header_like};
-use record::kind::unpack;
-
-/// Packet `k` has to be the header with this key.
-fn header_at<C: Carrier>(carrier: &C, k: usize, key: u32) -> Result<u32, FileFault>
-    ensures { result ≡ header_at key k (drop k (C.Carrier.cells carrier.now)) }
-{
-    let packet = next_packet(carrier, k)?;
-    open_header(&packet, k, key, 1, NONE)
-}
+use record::packing::unpack;
 
 /// Packet `k`, which has to be data.
 fn data_packet<C: Carrier>(carrier: &C, k: usize) -> Result<Packet, FileFault>
@@ -38,7 +31,7 @@ fn read_label<C: Carrier>(carrier: &C) -> Result<Label, FileFault>
     ensures { result ≡ data_at (plain unpacked bad) 1 (drop 1 (C.Carrier.cells carrier.now)) }
 {
     let packet = data_packet(carrier, 1)?;
-    Ok(unpack::<Label>(&packet, 1)?)
+    Ok(unpack::<LabelItems>(&packet, 1)?)
 }
 
 /// Packet 3 has to be the identifier.
@@ -53,9 +46,9 @@ fn read_identifier<C: Carrier>(carrier: &C) -> Result<(), FileFault>
 pub(crate) fn read_opening<C: Carrier>(carrier: &C) -> Result<Label, FileFault>
     ensures { result ≡ opening (C.Carrier.cells carrier.now) }
 {
-    header_at(carrier, 0, 101)?;
+    header_at(carrier, 0, LABEL, 1, Bounds::NONE)?;
     let label = read_label(carrier)?;
-    header_at(carrier, 2, 107)?;
+    header_at(carrier, 2, IDENTIFIER, 1, Bounds::NONE)?;
     read_identifier(carrier)?;
     Ok(label)
 }

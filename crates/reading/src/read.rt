@@ -1,45 +1,25 @@
 //! READ: whether a carrier holds a file, and how much stands in it.
-ghost use Rattle.std.specs.Prelude.{◌≡◌, ◌+◌, ◌<◌, ◌≤◌, length, drop, IfOk};
-ghost use Rattle.reading.specs.declared.walk.Stage.TheVariants.{Orbits};
-ghost use Rattle.reading.specs.Outcomes.{seen};
-ghost use Rattle.reading.specs.Reading.{onward};
+ghost use Rattle.std.specs.Prelude.{◌≡◌, ◌<◌, ◌≤◌, length, IfOk};
 ghost use Rattle.reading.specs.Files.{answer, both, Judged, Telling};
-ghost use Rattle.reading.specs.Walking.{rows_over, start, reported};
+ghost use Rattle.reading.specs.Walking.{start, walked};
 
 use crate::cells::check_filler;
 use crate::group::walk_group;
 use crate::opening::read_opening;
-use crate::passing::{NONE, step};
+use crate::passing::step;
 use crate::report::Report;
-use crate::walk::{Stage, Walk};
+use crate::walk::{Bounds, Stage, Walk};
 use carrier::Carrier;
+use label::label::spacecraft_of;
 use odf::fault::FileFault;
-use orbit::orbit::Orbit;
-
-/// The walk behind the orbit records.
-fn walk_behind(orbits: usize) -> Walk
-    requires { orbits < 1000000 }
-    ensures { result ≡ start orbits }
-{
-    Walk {
-        stage: Stage::Orbits,
-        report: Report {
-            end: 5 + orbits,
-            orbits,
-            groups: 0,
-            ramps: 0,
-            clocks: 0,
-            rows: None,
-        },
-    }
-}
+use orbit::items::OrbitItems;
 
 /// What stands behind the orbit records, up to the last cell. Each group takes a cell, so there are no more groups than cells.
 fn read_rest<C: Carrier>(carrier: &C, cells: usize, orbits: usize) -> Result<Report, FileFault>
     requires { (orbits < 1000000) × (cells ≡ length (C.Carrier.cells carrier.now)) }
-    ensures { result ≡ seen (reported (start orbits) (rows_over orbits (C.Carrier.cells carrier.now))) (onward (length (C.Carrier.cells carrier.now)) Orbits (rows_over orbits (C.Carrier.cells carrier.now)) (5 + orbits) (drop (5 + orbits) (C.Carrier.cells carrier.now))) }
+    ensures { result ≡ walked (length (C.Carrier.cells carrier.now)) (start orbits) (C.Carrier.cells carrier.now) }
 {
-    let mut walk = walk_behind(orbits);
+    let mut walk = Walk::start(orbits);
     for _turn in 0..cells {
         walk = step(carrier, walk)?;
         if walk.stage == Stage::Closed {
@@ -61,7 +41,12 @@ pub fn read<C: Carrier>(carrier: &C) -> Result<Report, FileFault>
 {
     let cells = carrier.count();
     let label = read_opening(carrier)?;
-    let orbits = walk_group::<Orbit, C>(carrier, 4, NONE, Some(label.spacecraft()))?;
+    let orbits = walk_group::<OrbitItems, C>(
+        carrier,
+        4,
+        Bounds::NONE,
+        Some(spacecraft_of(&label)),
+    )?;
     read_rest(carrier, cells, orbits.records)
 }
 

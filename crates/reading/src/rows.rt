@@ -6,7 +6,7 @@ ghost use Rattle.reading.specs.Outcomes.{seen};
 ghost use Rattle.reading.specs.Reading.{rows_at};
 ghost use Rattle.reading.specs.Walking.{rows_over};
 
-use crate::cells::{is_same, next_packet};
+use crate::cells::next_packet;
 use carrier::Carrier;
 use odf::fault::FileFault;
 use summary::recount::lowest_rows;
@@ -20,7 +20,7 @@ fn check_row<C: Carrier>(carrier: &C, row: &Row<SummaryKey>, k: usize) -> Result
     ensures within { OnOk result (k < length (C.Carrier.cells carrier.now)) }
 {
     let packet = next_packet(carrier, k)?;
-    if is_same(&packet, &row_packet(row)) {
+    if packet == row_packet(row) {
         Ok(())
     } else {
         Err(FileFault::WrongRow { packet: k })
@@ -37,10 +37,8 @@ fn check_batch<C: Carrier>(
     ensures answer { result ≡ rows_at first (map row_packet (rows_in table.now)) (drop first (C.Carrier.cells carrier.now)) }
     ensures within { OnOk result (first + length (rows_in table.now) ≤ length (C.Carrier.cells carrier.now)) }
 {
-    for i in 0..table.count() {
-        if let Some(row) = table.row(i) {
-            check_row(carrier, &row, first + i)?;
-        }
+    for (i, row) in table.rows().iter().enumerate() {
+        check_row(carrier, row, first + i)?;
     }
     Ok(())
 }

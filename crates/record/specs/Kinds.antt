@@ -3,6 +3,10 @@ use Rattle.std.specs.Prelude.{◌≡◌, ℕ, zero, suc, min, List, Some, None, 
 use Rattle.packet.specs.Packets.{words_of}
 use Rattle.record.specs.declared.fault.RecordFault.{RecordFault}
 use Rattle.record.specs.declared.fault.RecordFault.TheVariants.{BadItem}
+use Rattle.record.specs.declared.kind.RecordKind.{Ghosts as KindGhosts}
+use Rattle.record.specs.declared.lawful.Items.{Ghosts as ItemsGhosts}
+use Rattle.record.specs.declared.lawful.Lawful.{Lawful}
+use Rattle.record.specs.declared.kind.Packed.{Ghosts as PackedGhosts}
 
 -- how records lie in nine words and which record nine words are; the lowest bad item of nine words, 0 where there is none; the item
 -- at which nine words name another owner than the one given, 0 where they do not; when a record starts, and the time before which none may follow it
@@ -44,3 +48,28 @@ formed_if bad made i (suc n) e = None
 
 abbrev pub formed : {I R : Type 0} (bad : I → ℕ) → ((i : I) → bad i ≡ 0 → R) → I → Option R
 formed bad made i = formed_if bad made i (bad i) refl
+
+-- the record of items that break no rule
+abbrev pub made : {I : Type 0} (rules : ItemsGhosts I) (i : I) → rules.unfit i ≡ 0 → Lawful I rules
+made rules i e = record { items = i; lawful = e }
+
+-- a record's nine words, the record that nine words are, and their lowest bad item, 0 where there is none
+abbrev pub packed_by : {I : Type 0} (rules : ItemsGhosts I) → PackedGhosts I → Lawful I rules → List ℕ
+packed_by rules words x = words.packed x.items
+
+abbrev pub unpacked_by : {I : Type 0} (rules : ItemsGhosts I) → PackedGhosts I → List ℕ → Option (Lawful I rules)
+unpacked_by rules words w = formed rules.unfit (made rules) (words.unpacked w)
+
+abbrev pub bad_by : {I : Type 0} → ItemsGhosts I → PackedGhosts I → List ℕ → ℕ
+bad_by rules words w = rules.bad (words.unpacked w)
+
+-- the kind of the records that these items form
+abbrev pub kind_of : {I : Type 0} (rules : ItemsGhosts I) → PackedGhosts I → KindGhosts I → Kind (Lawful I rules)
+kind_of rules words kind = record {
+  packed = packed_by rules words;
+  unpacked = unpacked_by rules words;
+  bad = bad_by rules words;
+  foreign = λ o w. kind.foreign o (words.unpacked w);
+  starts = λ x. kind.starts x.items;
+  until = λ x. kind.until x.items;
+}

@@ -1,5 +1,5 @@
 -- Rules of items.
-use Rattle.std.specs.Prelude.{ℕ, suc, Bool, true, false, not, ◌&&◌, List, [], ◌∷◌, ℤ, pos, negsuc, int_le, int_lt, nat_le}
+use Rattle.std.specs.Prelude.{ℕ, zero, suc, Some, None, Option, Bool, true, false, not, ◌&&◌, List, [], ◌∷◌, ℤ, pos, negsuc, int_le, int_lt, nat_le}
 
 -- the lowest place, counted from i, of a rule that is broken; 0 where each is kept
 abbrev pub lowest : ℕ → List Bool → ℕ
@@ -18,3 +18,8 @@ paired whole part = int_le (negsuc 999999998) part && int_le part (pos 999999999
 -- a number of 32 bits, two's complement
 abbrev pub signed32 : ℤ → Bool
 signed32 z = int_le (negsuc 2147483647) z && int_le z (pos 2147483647)
+
+-- the item that breaks its rule, if one does: no item has the number 0
+abbrev pub broken : ℕ → Option ℕ
+broken zero = None
+broken (suc n) = Some (suc n)

@@ -4,6 +4,8 @@ ghost use Rattle.record.specs.Refusals.{refusal_of};
 ghost use Rattle.record.specs.declared.fault.RecordFault.TheVariants.{InCarrier};
 
 use carrier::fault::{CarrierFault, Refusal};
+use std::error::Error;
+use std::fmt;
 
 /// A record that cannot be read or formed.
 #[derive(Clone, Copy, PartialEq, Eq, Debug)]
@@ -16,13 +18,13 @@ pub enum RecordFault {
     Forbidden { item: usize },
 }
 
-impl RecordFault {
-    /// The numbers of this fault; a fault of the carrier tells its own.
-    pub fn refusal(&self) -> Refusal
-        ensures { result ≡ refusal_of self.now }
-    {
-        match *self {
-            RecordFault::InCarrier(fault) => fault.refusal(),
+// A fault of the carrier tells its own numbers.
+impl From<RecordFault> for Refusal {
+    ghost from_gives = { λ e r. r ≡ refusal_of e };
+
+    fn from(fault: RecordFault) -> Refusal {
+        match fault {
+            RecordFault::InCarrier(fault) => Refusal::from(fault),
             RecordFault::BadItem { packet, item } => Refusal {
                 number: 22,
                 layer: 2,
@@ -40,6 +42,14 @@ impl RecordFault {
         }
     }
 }
+
+impl fmt::Display for RecordFault {
+    fn fmt<W: fmt::Write>(&self, f: &mut fmt::Formatter<W>) -> fmt::Result {
+        Refusal::from(*self).fmt(f)
+    }
+}
+
+impl Error for RecordFault {}
 
 impl From<CarrierFault> for RecordFault {
     ghost from_gives = { λ e r. r ≡ InCarrier e };

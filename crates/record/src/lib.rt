@@ -3,5 +3,7 @@
 
 pub mod fault;
 pub mod kind;
+pub mod lawful;
+pub mod packing;
 pub mod rules;
 pub mod signed;

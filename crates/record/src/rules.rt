@@ -1,17 +1,17 @@
 //! Rules that several kinds share.
 ghost use Rattle.std.specs.Prelude.{◌≡◌};
-ghost use Rattle.record.specs.Rules.{lowest, paired, within, signed32};
+ghost use Rattle.record.specs.Rules.{broken, lowest, paired, within, signed32};
 
-/// The number of the first rule that is broken, counted from 1; 0 where each is kept.
-pub fn lowest_broken(rules: &[bool]) -> usize
-    ensures { result ≡ lowest 1 rules.now }
+/// The number of the first rule that is broken, counted from 1, if one is.
+pub fn lowest_broken(rules: &[bool]) -> Option<usize>
+    ensures { result ≡ broken (lowest 1 rules.now) }
 {
     for (i, kept) in rules.iter().enumerate() {
         if !*kept {
-            return i + 1;
+            return Some(i + 1);
         }
     }
-    0
+    None
 }
 
 /// Whether a whole and its billionths are a signed pair: never of opposite signs.

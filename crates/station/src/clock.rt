@@ -2,20 +2,8 @@
 pub mod items;
 pub mod kind;
 
-ghost use Rattle.std.specs.Prelude.{◌≡◌};
-ghost use Rattle.station.specs.ClockRules.{bad_clock};
+use crate::clock::items::ClockItems;
+use record::lawful::Lawful;
 
 /// A lawful clock record.
-#[derive(Clone, Copy)]
-pub struct Clock {
-    seconds: u64,
-    fraction: u64,
-    offset: i64,
-    part: i64,
-    primary: u64,
-    secondary: u64,
-    spare: u64,
-    endseconds: u64,
-    endfraction: u64,
-    ghost lawful: { bad_clock (record { seconds = seconds; fraction = fraction; offset = offset; part = part; primary = primary; secondary = secondary; spare = spare; endseconds = endseconds; endfraction = endfraction }) ≡ 0 },
-}
+pub type Clock = Lawful<ClockItems>;

@@ -1,9 +1,10 @@
 -- The rows of a recount in batches of 64: what a pass above a floor leaves, and where the next begins.
 use Rattle.std.proofs.Common.{◌≡◌, ℕ, zero, suc, ◌+◌, ◌<◌, ◌≤◌, Bool, true, false, cond, List, [], ◌∷◌, length, get_or, take, drop, Some, None, Option, sym, refl, ap, ◌∙◌, subst, ⊎_elim, arith}
+use Rattle.std.proofs.lemmas.Option.{none-some, slice_get_within, get_or_from_slice_get, slice_get_cases}
 use Rattle.std.proofs.lemmas.List.{take_all, length-take, length-drop, drop-drop}
 use Rattle.std.proofs.lemmas.Bool.{cond_both, cond-true, cond-false, both_ways, cases_Bool}
 use Rattle.std.specs.List.{slice_get}
-use Rattle.orbit.specs.declared.orbit.Orbit.{Orbit}
+use Rattle.orbit.specs.Orbits.{Orbit}
 use Rattle.orbit.specs.Orbits.{instant}
 use Rattle.summary.specs.declared.table.Row.{Row}
 use Rattle.summary.specs.Orders.{Order}
@@ -22,12 +23,12 @@ unfolding over
 over_all lt k [] h = refl
 over_all lt k (r ∷ rs) h = cond-true _ _ _ h.0 ∙ ap (λ z. r ∷ z) (over_all lt k rs h.1)
 
-above_at : {K : Type 0} (lt : K → K → Bool) (k : K) (rs : List (Row K)) (i : ℕ) (d : Row K) → AllAbove lt k rs → i < length rs → lt k (get_or rs i d).key ≡ true
+pub above_at : {K : Type 0} (lt : K → K → Bool) (k : K) (rs : List (Row K)) (i : ℕ) (d : Row K) → AllAbove lt k rs → i < length rs → lt k (get_or rs i d).key ≡ true
 above_at lt k [] i d h l = let b : ⊥ = omega arith in absurd b
 above_at lt k (r ∷ rs) zero d h l = h.0
 above_at lt k (r ∷ rs) (suc i) d h l = above_at lt k rs i d h.1 (omega arith)
 
-not_back : {K : Type 0} (lt : K → K → Bool) → Order lt → (j k : K) → lt j k ≡ true → lt k j ≡ false
+pub not_back : {K : Type 0} (lt : K → K → Bool) → Order lt → (j k : K) → lt j k ≡ true → lt k j ≡ false
 not_back lt o j k e = ⊎_elim (λ f. let b : ⊥ = both_ways _ (o.irreflexive j) (o.transitive j k j e f) in absurd b) (λ f. f) (cases_Bool (lt k j))
 
 over-drop : {K : Type 0} (lt : K → K → Bool) → Order lt → (rs : List (Row K)) (i : ℕ) (d : Row K) → Ascends lt rs → i < length rs → over lt (Some (get_or rs i d).key) rs ≡ drop (suc i) rs
@@ -70,14 +71,10 @@ over-over lt o a k (r ∷ rs) p =
     (λ q. over-over lt o a k rs p ∙ sym (cond-false _ _ _ (⊎_elim (λ t. let b : ⊥ = both_ways _ q (passes_up lt o a k r.key p t) in absurd b) (λ f. f) (cases_Bool (lt k r.key)))))
 
 nth_some : {X : Type 0} (xs : List X) (i : ℕ) (x : X) → slice_get xs i ≡ Some x → (i < length xs) × (get_or xs i x ≡ x)
-nth_some [] i x e = let z : ◌≡◌ {A = ℕ} 0 1 = cc in absurd (omega arith)
-nth_some (y ∷ ys) zero x e = (omega arith, cc)
-nth_some (y ∷ ys) (suc i) x e = let h = nth_some ys i x e in (omega (arith, h.0), h.1)
+nth_some xs i x e = (slice_get_within xs i x e, get_or_from_slice_get xs i x x e)
 
 nth_none : {X : Type 0} (xs : List X) (i : ℕ) → slice_get xs i ≡ None → length xs ≤ i
-nth_none [] i e = omega arith
-nth_none (y ∷ ys) zero e = let z : ◌≡◌ {A = ℕ} 0 1 = cc in absurd (omega arith)
-nth_none (y ∷ ys) (suc i) e = let h = nth_none ys i e in omega arith
+nth_none xs i e = ⊎_elim (λ h. absurd (none-some h.0 (sym e ∙ h.2))) (λ h. h.0) (slice_get_cases xs i).1
 
 key_some : {K : Type 0} (o : Option (Row K)) (k : K) → key_of o ≡ Some k → (r : Row K) × ((o ≡ Some r) × (r.key ≡ k))
 key_some None k e = let z : ◌≡◌ {A = ℕ} 0 1 = cc in absurd (omega arith)

@@ -1,14 +1,14 @@
 -- The orbit records in a row of cells.
-use Rattle.std.proofs.Common.{◌≡◌, ℕ, zero, suc, ◌+◌, ◌-◌, ◌<◌, ◌≤◌, min, false, List, [], ◌∷◌, ◌++◌, map, length, get_or, take, drop, is_err, Some, None, Option, sym, refl, ap, ◌∙◌, inl, inr, arith}
-use Rattle.std.proofs.lemmas.List.{take_more, take_all, length-drop, get_or-drop}
-use Rattle.std.proofs.lemmas.Bool.{cases_lt, cond-false}
+use Rattle.std.proofs.Common.{◌≡◌, ℕ, zero, suc, ◌+◌, ◌-◌, ◌<◌, ◌≤◌, min, false, List, [], ◌∷◌, ◌++◌, map, length, get_or, take, drop, is_err, Some, None, Option, sym, refl, ap, ◌∙◌, arith}
+use Rattle.std.proofs.lemmas.List.{take_more, take_min, drop_min, length-drop, get_or-drop}
+use Rattle.std.proofs.lemmas.Bool.{cond-false}
 use Rattle.std.specs.Result.{result_ok}
 use Rattle.packet.specs.Packets.{words_of, bytes_of, header_like}
 use Rattle.packet.proofs.PacketLaws.{words_back}
 use Rattle.carrier.specs.Cells.{Cell, holds, damaged, cell_at, reply, filled}
 use Rattle.record.specs.Kinds.{judged, plain}
 use Rattle.record.proofs.Data.{no_header}
-use Rattle.orbit.specs.declared.orbit.Orbit.{Orbit}
+use Rattle.orbit.specs.Orbits.{Orbit}
 use Rattle.orbit.specs.Orbits.{packed, unpacked, bad}
 use Rattle.orbit.specs.OrbitKindLaws.{read_back, headless, nine_words, narrow}
 use Rattle.summary.specs.Found.{orbit_in, orbit_at, before, orbits_in}
@@ -51,30 +51,13 @@ unfolding orbits_in
 orbits_few [] = omega arith
 orbits_few (c ∷ cs) = let h = orbits_few cs in let i = before_few (orbit_in c) (orbits_in cs) in omega arith
 
-take_min : {X : Type 0} (n : ℕ) (xs : List X) → take (min n (length xs)) xs ≡ take n xs
-take_min n xs =
-    elim (cases_lt n (length xs)) [
-      | inl h ↦ let e : min n (length xs) ≡ n = omega arith in ap (λ (z : ℕ). take z xs) e
-      | inr h ↦ take_all (min n (length xs)) xs (omega arith) ∙ sym (take_all n xs h)
-    ]
-
-take_none : {X : Type 0} (n : ℕ) (xs : List X) → length xs ≤ 0 → take n xs ≡ take 0 xs
-take_none n xs h = take_all n xs (omega arith) ∙ sym (take_all 0 xs h)
-
 -- a stretch that may reach beyond the end, and its cells
 pub clipped : {X : Type 0} (xs : List X) (from count s n : ℕ) → s ≡ min from (length xs) → n ≡ min count (length xs - s) → take n (drop s xs) ≡ take count (drop from xs)
 clipped xs from count s n p q =
-    elim (cases_lt from (length xs)) [
-      | inl h ↦
-          let e : s ≡ from = omega arith in
-          let m : length (drop s xs) ≡ length xs - s = length-drop s xs in
-          let f : n ≡ min count (length (drop s xs)) = omega arith in
-          ap (λ (z : ℕ). take z (drop s xs)) f ∙ take_min count (drop s xs) ∙ ap (λ (z : ℕ). take count (drop z xs)) e
-      | inr h ↦
-          let f : n ≡ 0 = omega arith in
-          let m : length (drop from xs) ≡ length xs - from = length-drop from xs in
-          ap (λ (z : ℕ). take z (drop s xs)) f ∙ sym (take_none count (drop from xs) (omega arith))
-    ]
+    ap (λ (z : ℕ). take z (drop s xs)) (q ∙ ap (min count) (sym (length-drop s xs)))
+    ∙ take_min count (drop s xs)
+    ∙ ap (λ (z : ℕ). take count (drop z xs)) p
+    ∙ ap (take count) (drop_min from xs)
 
 ok_judged : (k b : ℕ) (o : Option Orbit) → result_ok (judged k b 0 o) ≡ o
 ok_judged k b None = refl

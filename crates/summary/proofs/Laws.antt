@@ -1,7 +1,7 @@
 -- The laws of a recount.
 use Rattle.std.proofs.Common.{◌≡◌, ℕ, suc, ◌+◌, ◌≤◌, min, max, Bool, true, false, cond, ◌⊎◌, List, [], ◌∷◌, length, Some, None, Option, sym, refl, ap, ◌∙◌, subst, inl, inr, ⊎_elim, arith}
 use Rattle.std.proofs.lemmas.Bool.{cond_both, cond-true, cond-false, and_parts, and_right, and_left, and_from, not-true, not_from_true, not_from_false, cases_lt}
-use Rattle.orbit.specs.declared.orbit.Orbit.{Orbit}
+use Rattle.orbit.specs.Orbits.{Orbit}
 use Rattle.orbit.specs.Orbits.{instant}
 use Rattle.summary.specs.declared.table.Row.{Row}
 use Rattle.summary.specs.Orders.{Order}

@@ -10,7 +10,7 @@ use Rattle.orbit.specs.OrbitRules.{bad_orbit, orbit_rules}
 use Rattle.orbit.specs.Types.{class_at}
 use Rattle.orbit.specs.Orbits.{items_of, instant}
 use Rattle.orbit.specs.declared.items.OrbitItems.{OrbitItems}
-use Rattle.orbit.specs.declared.orbit.Orbit.{Orbit}
+use Rattle.orbit.specs.Orbits.{Orbit}
 use Rattle.orbit.specs.OrbitKindLaws.{timed}
 use Rattle.orbit.specs.OrbitLaws.{wide}
 use Rattle.summary.specs.declared.summary_key.SummaryKey.{SummaryKey}
@@ -99,7 +99,7 @@ keeps x k e =
       receiver = omega arith;
       downlink = omega arith;
       kind = omega arith;
-      channel = cond_both (within 11 13 x.kind) x.channel 0 (λ (n : ℕ). n < 2 ^ 32) (λ _. omega arith) (λ _. omega arith);
+      channel = cond_both (within 11 13 x.items.kind) x.items.channel 0 (λ (n : ℕ). n < 2 ^ 32) (λ _. omega arith) (λ _. omega arith);
       some = no_type (items_of x) x.lawful;
     } in
     subst Keeps q p

@@ -1,88 +1,108 @@
--- Noting a key in the rows of a table.
-use Rattle.std.proofs.Common.{◌≡◌, ℕ, zero, suc, ◌+◌, ◌<◌, ◌≤◌, Bool, true, false, List, [], ◌∷◌, ◌++◌, length, get_or, take, drop, set, sym, refl, ap, ◌∙◌, subst, append_assoc, add-one, arith}
-use Rattle.std.proofs.lemmas.List.{take_more, drop_more, take_more_set, drop_all, take_all, get_or-take, length-take-le, length-take}
+-- The rows of a table: where a key's row stands among them, and noting the key there.
+use Rattle.std.proofs.Common.{◌≡◌, ℕ, zero, suc, ◌+◌, ◌<◌, ◌≤◌, Bool, true, List, [], ◌∷◌, length, get_or, take, set, Result, Ok, Err, IfOk, IfErr, sym, refl, ap, ◌∙◌, subst, arith}
+use Rattle.std.proofs.lemmas.Cmp.{tied_back}
+use Rattle.std.proofs.lemmas.List.Sorted.{searchable_from_sorted}
+use Rattle.std.specs.Cmp.{IsTotalOrder}
+use Rattle.std.specs.List.{insert}
+use Rattle.std.specs.List.Sorted.{IsSearchInRange, IsBinarySearchResult}
+use Rattle.std.specs.Ordering.{is_lt, ordering_reverse}
+use Rattle.std.specs.declared.cmp.Ordering.{Ordering}
 use Rattle.summary.specs.declared.table.Row.{Row}
-use Rattle.summary.specs.Rows.{fresh, more, note, total_of}
+use Rattle.summary.specs.Orders.{Order}
+use Rattle.summary.specs.Places.{IsRowOf, IsGapFor}
+use Rattle.summary.specs.Rows.{fresh, more, note, total_of, AllAbove, Ascends}
 use Rattle.summary.proofs.Laws.{note_past, note_here, note-more}
+use Rattle.summary.proofs.Batches.{above_at, not_back}
 
--- what is left of the first n, one on
-pub drop_front : {X : Type 0} (xs : List X) (n i : ℕ) (d : X) → i < n → n ≤ length xs → drop i (take n xs) ≡ get_or xs i d ∷ drop (i + 1) (take n xs)
-drop_front xs n i d h l =
-    let k : i < length (take n xs) = rw (length-take-le n xs l) h in
-    drop_more (take n xs) i d k ∙ ap (λ z. z ∷ drop (i + 1) (take n xs)) (get_or-take n xs i d h)
+-- of two rows of ascending rows the first has the lower key
+ascends_at : {K : Type 0} (lt : K → K → Bool) (rs : List (Row K)) (i j : ℕ) (d : Row K) → Ascends lt rs → i < j → j < length rs → lt (get_or rs i d).key (get_or rs j d).key ≡ true
+ascends_at lt [] i j d h a l = absurd (omega arith)
+ascends_at lt (r ∷ rs) i zero d h a l = absurd (omega arith)
+ascends_at lt (r ∷ rs) zero (suc j) d h a l = above_at lt r.key rs j d h.0 (omega arith)
+ascends_at lt (r ∷ rs) (suc i) (suc j) d h a l = ascends_at lt rs i j d h.1 (omega arith) (omega arith)
 
--- the search for a key's place, one on
-pub split-more : {K : Type 0} (lt : K → K → Bool) (k : K) (t : ℕ) (rows : List (Row K)) (n i : ℕ) (d : Row K) → i < n → n ≤ length rows → lt (get_or rows i d).key k ≡ true →
-    take i rows ++ note lt k t (drop i (take n rows)) ≡ take (i + 1) rows ++ note lt k t (drop (i + 1) (take n rows))
-split-more lt k t rows n i d h l e =
-    ap (λ z. take i rows ++ note lt k t z) (drop_front rows n i d h l)
-    ∙ ap (λ z. take i rows ++ z) (note_past lt k t (get_or rows i d) _ e)
-    ∙ sym (append_assoc (take i rows) (get_or rows i d ∷ []) _)
-    ∙ ap (λ z. z ++ note lt k t (drop (i + 1) (take n rows))) (sym (take_more rows i d (omega arith)))
+module _ {K : Type 0} (lt : K → K → Bool) (o : Order lt) (cmp : K → K → Ordering) (total : IsTotalOrder cmp) (compares : (x y : K) → lt x y ≡ is_lt (cmp x y)) where
+  -- a binary search among ascending rows ends at the key's row, or at the gap for it
+  pub searched : (k : K) (rows : List (Row K)) → Ascends lt rows → (r : Result ℕ ℕ) → IsSearchInRange r (length rows) → IsBinarySearchResult (λ y. cmp y.key k) rows r →
+      record { found : IfOk r (IsRowOf lt k rows); absent : IfErr r (IsGapFor lt k rows) }
+  searched k rows ascends (Ok i) in_range equal =
+      let here : (d : Row K) → (get_or rows i d).key ≡ k =
+      λ d. let y = (get_or rows i d).key in
+      o.connected y k (compares y k ∙ ap is_lt (equal d)) (compares k y ∙ ap is_lt (tied_back total y k (equal d))) in
+      record {
+        found = record {
+          in_range = in_range;
+          lower = λ j d h. subst (λ z. lt (get_or rows j d).key z ≡ true) (here d) (ascends_at lt rows j i d ascends h in_range);
+          here = here;
+        };
+        absent = tt;
+      }
+  searched k rows ascends (Err i) in_range parted =
+      let parts = parted (searchable_from_sorted total (λ y. y.key) rows k (λ j d low h.
+      sym (compares _ _) ∙ not_back lt o _ _ (ascends_at lt rows j (j + 1) d ascends (omega arith) h))) in
+      record {
+        found = tt;
+        absent = record {
+          in_range = in_range;
+          lower = λ j d h. compares _ k ∙ ap is_lt (parts.0 j d (omega arith) h);
+          higher = λ j d h l. let y = (get_or rows j d).key in compares k y ∙ ap is_lt (total.antisymm k y ∙ ap ordering_reverse (parts.1 j d h l));
+        };
+      }
 
--- drop after take, past a write
-pub drop-take-set : {X : Type 0} (xs : List X) (n i : ℕ) (y : X) → drop (i + 1) (take n (set xs i y)) ≡ drop (i + 1) (take n xs)
-drop-take-set xs n i y = rw add-one (go xs n i)
-  where
-    go : (xs : List _) (n i : ℕ) → drop (suc i) (take n (set xs i y)) ≡ drop (suc i) (take n xs)
-    go [] n i = refl
-    go (x ∷ xs) zero i = refl
-    go (x ∷ xs) (suc n) zero = refl
-    go (x ∷ xs) (suc n) (suc i) = go xs n i
+-- a record is noted in its key's row
+pub note_at : {K : Type 0} (lt : K → K → Bool) → Order lt → (k : K) (t : ℕ) (rows : List (Row K)) (i : ℕ) (d : Row K) → IsRowOf lt k rows i → note lt k t rows ≡ set rows i (more t (get_or rows i d))
+note_at lt o k t [] i d at = let b : ⊥ = omega (arith, at.in_range) in absurd b
+note_at lt o k t (r ∷ rs) zero d at =
+    let e : r.key ≡ k = at.here d in
+    note-more lt k t r rs (ap (λ z. lt z k) e ∙ o.irreflexive k) (ap (lt k) e ∙ o.irreflexive k)
+note_at lt o k t (r ∷ rs) (suc i) d at =
+    note_past lt k t r rs (at.lower 0 d (omega arith))
+    ∙ ap (λ z. r ∷ z) (note_at lt o k t rs i d (record { in_range = omega (arith, at.in_range); lower = λ j e h. at.lower (suc j) e (omega arith); here = at.here }))
 
--- a row carried down, one on
-pub carry_more : {X : Type 0} (xs : List X) (n j : ℕ) (c d : X) → j < n → n ≤ length xs →
-    take (j + 1) (set xs j c) ++ get_or xs j d ∷ drop (j + 1) (take n (set xs j c)) ≡ take j xs ++ c ∷ drop j (take n xs)
-carry_more xs n j c d h l =
-    ap (λ z. z ++ get_or xs j d ∷ drop (j + 1) (take n (set xs j c))) (take_more_set xs j c (omega arith))
-    ∙ append_assoc (take j xs) (c ∷ []) _
-    ∙ ap (λ z. take j xs ++ c ∷ get_or xs j d ∷ z) (drop-take-set xs n j c)
-    ∙ ap (λ z. take j xs ++ c ∷ z) (sym (drop_front xs n j d h l))
-
--- the carried row behind the last
-pub carry_end : {X : Type 0} (xs : List X) (n j : ℕ) (c : X) → n ≤ j → j ≤ n → take j xs ++ c ∷ drop j (take n xs) ≡ take n xs ++ c ∷ []
-carry_end xs n j c h l =
-    let e : j ≡ n = omega arith in
-    subst (λ z. take z xs ++ c ∷ drop z (take n xs) ≡ take n xs ++ c ∷ []) (sym e)
-    (ap (λ z. take n xs ++ c ∷ z) (drop_all n (take n xs) (rw length-take (omega arith))))
-
--- a row written in its place
-pub front_set : {X : Type 0} (xs : List X) (n i : ℕ) (y : X) → i < n → n ≤ length xs → take n (set xs i y) ≡ take i xs ++ y ∷ drop (i + 1) (take n xs)
-front_set xs n i y h l = rw add-one (go xs n i h l)
-  where
-    go : (xs : List _) (n i : ℕ) → i < n → n ≤ length xs → take n (set xs i y) ≡ take i xs ++ y ∷ drop (suc i) (take n xs)
-    go [] n i h l = let b : ⊥ = omega arith in absurd b
-    go (x ∷ xs) zero i h l = let b : ⊥ = omega arith in absurd b
-    go (x ∷ xs) (suc n) zero h l = refl
-    go (x ∷ xs) (suc n) (suc i) h l = ap (λ z. x ∷ z) (go xs n i (omega arith) (omega arith))
-
-pub merged : {K : Type 0} (lt : K → K → Bool) (k : K) (t : ℕ) (rows : List (Row K)) (n i : ℕ) (d : Row K) → i < n → n ≤ length rows → n ≤ 64 →
-    lt (get_or rows i d).key k ≡ false → lt k (get_or rows i d).key ≡ false →
-    note lt k t (take n rows) ≡ take i rows ++ note lt k t (drop i (take n rows)) →
-    take n (set rows i (more t (get_or rows i d))) ≡ take 64 (note lt k t (take n rows))
-merged lt k t rows n i d h l m e f w =
-    let y = more t (get_or rows i d) in
-    sym (take_all 64 (take n (set rows i y)) (rw length-take (omega arith)))
-    ∙ ap (take 64) (front_set rows n i y h l
-    ∙ ap (λ z. take i rows ++ z) (sym (note-more lt k t (get_or rows i d) _ e f))
-    ∙ ap (λ z. take i rows ++ note lt k t z) (sym (drop_front rows n i d h l))
-    ∙ sym w)
-
-pub fresh_last : {K : Type 0} (lt : K → K → Bool) (k : K) (t : ℕ) (rows : List (Row K)) (n i : ℕ) → n ≤ i → note lt k t (drop i (take n rows)) ≡ fresh k t ∷ drop i (take n rows)
+-- of a key without a row the row comes into the gap
+pub note_gap : {K : Type 0} (lt : K → K → Bool) → Order lt → (k : K) (t : ℕ) (rows : List (Row K)) (i : ℕ) → IsGapFor lt k rows i → note lt k t rows ≡ insert rows i (fresh k t)
 unfolding note
-fresh_last lt k t rows n i h = let e : drop i (take n rows) ≡ [] = drop_all i (take n rows) (rw length-take (omega arith)) in rw e
+note_gap lt o k t [] zero gap = refl
+note_gap lt o k t [] (suc i) gap = refl
+note_gap lt o k t (r ∷ rs) zero gap =
+    let above : lt k r.key ≡ true = gap.higher 0 r (omega arith) (omega arith) in
+    note_here lt k t r rs (not_back lt o k r.key above) above
+note_gap lt o k t (r ∷ rs) (suc i) gap =
+    note_past lt k t r rs (gap.lower 0 r (omega arith))
+    ∙ ap (λ z. r ∷ z) (note_gap lt o k t rs i (record {
+      in_range = omega (arith, gap.in_range);
+      lower = λ j e h. gap.lower (suc j) e (omega arith);
+      higher = λ j e h l. gap.higher (suc j) e (omega arith) (omega arith);
+    }))
 
-pub fresh_here : {K : Type 0} (lt : K → K → Bool) (k : K) (t : ℕ) (rows : List (Row K)) (n i : ℕ) (d : Row K) → i < n → n ≤ length rows →
-    lt (get_or rows i d).key k ≡ false → lt k (get_or rows i d).key ≡ true →
-    note lt k t (drop i (take n rows)) ≡ fresh k t ∷ drop i (take n rows)
-fresh_here lt k t rows n i d h l e f =
-    let q = drop_front rows n i d h l in
-    ap (note lt k t) q ∙ note_here lt k t _ _ e f ∙ ap (λ z. fresh k t ∷ z) (sym q)
+-- an element that comes in within the first, and one behind them
+pub take-insert : {X : Type 0} (xs : List X) (b i : ℕ) (y : X) → i ≤ b → take (suc b) (insert xs i y) ≡ insert (take b xs) i y
+take-insert xs b zero y h = refl
+take-insert [] zero (suc i) y h = absurd (omega arith)
+take-insert [] (suc b) (suc i) y h = refl
+take-insert (x ∷ xs) zero (suc i) y h = absurd (omega arith)
+take-insert (x ∷ xs) (suc b) (suc i) y h = ap (λ z. x ∷ z) (take-insert xs b i y (omega arith))
+
+pub take-insert_past : {X : Type 0} (xs : List X) (b i : ℕ) (y : X) → b ≤ i → b ≤ length xs → take b (insert xs i y) ≡ take b xs
+take-insert_past xs zero i y h l = refl
+take-insert_past [] (suc b) i y h l = absurd (omega arith)
+take-insert_past (x ∷ xs) (suc b) zero y h l = absurd (omega arith)
+take-insert_past (x ∷ xs) (suc b) (suc i) y h l = ap (λ z. x ∷ z) (take-insert_past xs b i y (omega arith) (omega arith))
+
+-- the first of ascending rows ascend
+above-take : {K : Type 0} (lt : K → K → Bool) (k : K) (b : ℕ) (rs : List (Row K)) → AllAbove lt k rs → AllAbove lt k (take b rs)
+above-take lt k zero rs h = tt
+above-take lt k (suc b) [] h = tt
+above-take lt k (suc b) (r ∷ rs) h = (h.0, above-take lt k b rs h.1)
+
+pub ascends-take : {K : Type 0} (lt : K → K → Bool) (b : ℕ) (rs : List (Row K)) → Ascends lt rs → Ascends lt (take b rs)
+ascends-take lt zero rs h = tt
+ascends-take lt (suc b) [] h = tt
+ascends-take lt (suc b) (r ∷ rs) h = (above-take lt r.key b rs h.0, ascends-take lt b rs h.1)
 
 -- a count is no more than all
-pub count_total : {K : Type 0} (rs : List (Row K)) (n i : ℕ) (d : Row K) → i < n → n ≤ length rs → (get_or rs i d).count ≤ total_of (take n rs)
+pub count_total : {K : Type 0} (rs : List (Row K)) (i : ℕ) (d : Row K) → i < length rs → (get_or rs i d).count ≤ total_of rs
 unfolding total_of
-count_total [] n i d h l = let b : ⊥ = omega arith in absurd b
-count_total (r ∷ rs) zero i d h l = let b : ⊥ = omega arith in absurd b
-count_total (r ∷ rs) (suc n) zero d h l = omega arith
-count_total (r ∷ rs) (suc n) (suc i) d h l = let q = count_total rs n i d (omega arith) (omega arith) in omega arith
+count_total [] i d h = let b : ⊥ = omega arith in absurd b
+count_total (r ∷ rs) zero d h = omega arith
+count_total (r ∷ rs) (suc i) d h = let q = count_total rs i d (omega arith) in omega arith

@@ -2,7 +2,7 @@
 use Rattle.std.specs.Prelude.{cond, List, [], ◌∷◌, Some, None, Option}
 use Rattle.packet.specs.Packets.{words_of, header_like}
 use Rattle.carrier.specs.Cells.{Cell, holds, damaged}
-use Rattle.orbit.specs.declared.orbit.Orbit.{Orbit}
+use Rattle.orbit.specs.Orbits.{Orbit}
 use Rattle.orbit.specs.Orbits.{unpacked}
 
 -- the record in a cell: none in a damaged one, in a header-like packet, and in one that is no lawful record's

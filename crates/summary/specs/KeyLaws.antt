@@ -1,7 +1,10 @@
 -- The order of lists of numbers is total, and so is the order of keys.
-use Rattle.std.specs.Prelude.{◌≡◌, ℕ, ◌<◌, Bool, true, false, ◌&&◌, ◌⊎◌, List, [], ◌∷◌, ◌==◌, slice_index, refl}
+use Rattle.std.specs.Prelude.{◌≡◌, ℕ, ◌<◌, Bool, true, false, cond, ◌||◌, ◌&&◌, ◌⊎◌, List, [], ◌∷◌, ◌==◌, nat_lt, slice_index, refl}
 use Rattle.std.proofs.Common.{sym, ap, ◌∙◌, inl, inr, ⊎_elim, arith}
 use Rattle.std.proofs.lemmas.Bool.{both_ways, or_cases, or_parts, or_left, or_right, and_parts, and_from, or_from, ltb-true, ltb-false, eqb-true, lt-ltb, le-ltb, eq-eqb}
+use Rattle.std.specs.Ordering.{nat_cmp, ordering_then, is_lt}
+use Rattle.std.specs.declared.cmp.Ordering.{Ordering}
+use Rattle.std.specs.declared.cmp.Ordering.TheVariants.{Less, Equal, Greater}
 use Rattle.summary.specs.Orders.{Order, lexb}
 use Rattle.summary.specs.SummaryKeys.{ranks, summary_lt}
 use Rattle.summary.specs.declared.summary_key.SummaryKey.{SummaryKey}
@@ -57,3 +60,28 @@ summary_ordered = record {
   transitive = λ x y z. lex_transitive (ranks x) (ranks y) (ranks z);
   connected = λ x y e f. ranks_apart x y (lex_connected (ranks x) (ranks y) e f);
 }
+
+-- one more number to compare
+cmp_more : (a b : ℕ) (below : Bool) (o : Ordering) → below ≡ is_lt o → (nat_lt a b || (a == b && below)) ≡ is_lt (ordering_then (nat_cmp a b) o)
+cmp_more a b below o e = go (nat_lt a b) (a == b)
+  where
+    go : (less level : Bool) → (less || (level && below)) ≡ is_lt (ordering_then (cond less Less (cond level Equal Greater)) o)
+    go true level = refl
+    go false true = e
+    go false false = refl
+
+cmp_last : (a b : ℕ) → (nat_lt a b || (a == b && false)) ≡ is_lt (nat_cmp a b)
+cmp_last a b = go (nat_lt a b) (a == b)
+  where
+    go : (less level : Bool) → (less || (level && false)) ≡ is_lt (cond less Less (cond level Equal Greater))
+    go true level = refl
+    go false true = refl
+    go false false = refl
+
+-- `cmp` of two keys, field by field, answers by their order
+pub summary_compares : (x y : SummaryKey) → summary_lt x y ≡ is_lt (ordering_then (nat_cmp x.receiver y.receiver) (ordering_then (nat_cmp x.downlink y.downlink) (ordering_then (nat_cmp x.kind y.kind) (nat_cmp x.channel y.channel))))
+summary_compares x y =
+    let channel = cmp_last x.channel y.channel in
+    let kind = cmp_more x.kind y.kind _ _ channel in
+    let downlink = cmp_more x.downlink y.downlink _ _ kind in
+    cmp_more x.receiver y.receiver _ _ downlink

@@ -1,5 +1,6 @@
 pub mod Found
 pub mod Orders
+pub mod Places
 pub mod RowWords
 pub mod Rows
 pub mod SummaryKeys

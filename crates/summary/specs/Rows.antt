@@ -1,7 +1,9 @@
 -- The recount of orbit records by a key: its rows, and the laws that say what they tell.
 use Rattle.std.specs.Prelude.{◌≡◌, ℕ, ◌+◌, ◌≤◌, min, max, Bool, true, cond, not, ◌&&◌, ◌⊎◌, List, [], ◌∷◌, length, Some, None, Option}
 use Rattle.std.specs.List.{slice_get}
-use Rattle.orbit.specs.declared.orbit.Orbit.{Orbit}
+use Rattle.std.specs.Coded.{×_prop, Unit-prop}
+use mathlib.Core.Bool.{Bool-set}
+use Rattle.orbit.specs.Orbits.{Orbit}
 use Rattle.orbit.specs.Orbits.{instant}
 use Rattle.summary.specs.declared.table.Row.{Row}
 
@@ -66,6 +68,15 @@ AllAbove lt k (r ∷ rs) = (lt k r.key ≡ true) × AllAbove lt k rs
 abbrev pub Ascends : {K : Type 0} → (K → K → Bool) → List (Row K) → Type 0
 Ascends lt [] = Unit {0}
 Ascends lt (r ∷ rs) = AllAbove lt r.key rs × Ascends lt rs
+
+-- either is a fact that has one proof at most
+pub AllAbove-prop : {K : Type 0} (lt : K → K → Bool) (k : K) (rs : List (Row K)) → IsProp (AllAbove lt k rs)
+AllAbove-prop lt k [] = Unit-prop
+AllAbove-prop lt k (r ∷ rs) = ×_prop (Bool-set _ _) (AllAbove-prop lt k rs)
+
+pub Ascends-prop : {K : Type 0} (lt : K → K → Bool) (rs : List (Row K)) → IsProp (Ascends lt rs)
+Ascends-prop lt [] = Unit-prop
+Ascends-prop lt (r ∷ rs) = ×_prop (AllAbove-prop lt r.key rs) (Ascends-prop lt rs)
 
 -- the times of the records of one key, in order
 abbrev pub times_of : {K : Type 0} → (K → K → Bool) → K → Option K → ℕ → List ℕ → List ℕ

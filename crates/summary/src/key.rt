@@ -1,12 +1,13 @@
 //! What records are counted by.
 ghost use Rattle.std.specs.Prelude.{◌≡◌, Bool, Option};
-ghost use Rattle.orbit.specs.declared.orbit.Orbit.{Orbit};
+ghost use Rattle.std.specs.Ordering.{is_lt};
+ghost use Rattle.orbit.specs.Orbits.{Orbit};
 ghost use Rattle.summary.specs.Orders.{Order};
 
 use orbit::orbit::Orbit;
 
-/// A key of orbit records, with a total order.
-pub trait Key: Copy {
+/// A key of orbit records; keys are ordered by `Ord`.
+pub trait Key: Copy + Default + Ord {
     // The key of a record, if it has one, and which of two keys is below the other.
     ghost keyed: { Orbit → Option Self };
 
@@ -16,12 +17,8 @@ pub trait Key: Copy {
     fn of(orbit: &Orbit) -> Option<Self>
         ensures { result ≡ keyed orbit.now };
 
-    /// Whether this key comes before the other.
-    fn below(&self, other: &Self) -> bool
-        ensures { result ≡ lt self.now other.now };
-
-    /// Any key, for the places of a table that no row has taken.
-    fn filler() -> Self;
-
+    // The order is total, and `cmp` answers by it.
     ghost ordered: { Order lt };
+
+    ghost compares: { (x y : Self) → lt x y ≡ is_lt (Self.cmp x y) };
 }

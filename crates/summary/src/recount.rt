@@ -9,9 +9,11 @@ ghost use Rattle.summary.specs.Tables.{rows_in};
 use crate::key::Key;
 use crate::table::Table;
 use carrier::Carrier;
+use orbit::items::OrbitItems;
 use orbit::orbit::Orbit;
 use packet::is_header_like;
-use record::kind::{RecordKind, unpack};
+use record::kind::RecordKind;
+use record::packing::unpack;
 
 /// The orbit record in a cell, if it holds one.
 fn orbit_at<C: Carrier>(carrier: &C, k: usize) -> Option<Orbit>
@@ -21,27 +23,21 @@ fn orbit_at<C: Carrier>(carrier: &C, k: usize) -> Option<Orbit>
     if carrier.get(k, &mut packet).is_err() || is_header_like(&packet) {
         return None;
     }
-    unpack::<Orbit>(&packet, k).ok()
+    unpack::<OrbitItems>(&packet, k).ok()
 }
 
 /// Whether a key is above the floor, if there is one.
 fn is_above<K: Key>(above: Option<K>, key: &K) -> bool
     ensures { result ≡ passes K.Key.lt above key.now }
 {
-    match above {
-        Some(floor) => floor.below(key),
-        None => true,
-    }
+    above.is_none_or(|floor| floor < *key)
 }
 
 /// A record's key, where it has one above the floor.
 fn key_above<K: Key>(above: Option<K>, orbit: &Orbit) -> Option<K>
     ensures { result ≡ kept K.Key.lt above (K.Key.keyed orbit.now) }
 {
-    match K::of(orbit) {
-        Some(key) if is_above(above, &key) => Some(key),
-        _ => None,
-    }
+    K::of(orbit).filter(|key| is_above(above, key))
 }
 
 /// Notes a record whose key is above the floor.
@@ -50,7 +46,7 @@ fn note_record<K: Key>(table: &mut Table<K>, above: Option<K>, orbit: &Orbit)
     ensures { rows_in table.new ≡ take 64 (note_of K.Key.lt (kept K.Key.lt above (K.Key.keyed orbit.now)) (instant orbit.now) (rows_in table.old)) }
 {
     if let Some(key) = key_above(above, orbit) {
-        table.note(key, orbit.time());
+        table.note(key, OrbitItems::time(orbit));
     }
 }
 

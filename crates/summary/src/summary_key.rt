@@ -1,13 +1,13 @@
 //! The key of a summary's row.
 ghost use Rattle.summary.specs.SummaryKeys.{summary_of, summary_lt};
-ghost use Rattle.summary.specs.KeyLaws.{summary_ordered};
+ghost use Rattle.summary.specs.KeyLaws.{summary_ordered, summary_compares};
 
 use crate::key::Key;
 use orbit::orbit::Orbit;
 use record::rules::is_within;
 
 /// By what a summary counts the records; keys are in the order of these numbers, the first foremost.
-#[derive(Clone, Copy)]
+#[derive(Clone, Copy, PartialEq, Eq, PartialOrd, Ord, Debug, Default)]
 pub struct SummaryKey {
     /// Receiving station.
     pub receiver: u32,
@@ -26,6 +26,8 @@ impl Key for SummaryKey {
 
     ghost ordered = { summary_ordered };
 
+    ghost compares = { summary_compares };
+
     fn of(orbit: &Orbit) -> Option<SummaryKey> {
         let items = orbit.items();
         let doppler = is_within(11, 13, items.kind);
@@ -35,27 +37,5 @@ impl Key for SummaryKey {
             kind: items.kind as u32,
             channel: if doppler { items.channel as u32 } else { 0 },
         })
-    }
-
-    fn below(&self, other: &SummaryKey) -> bool {
-        if self.receiver != other.receiver {
-            return self.receiver < other.receiver;
-        }
-        if self.downlink != other.downlink {
-            return self.downlink < other.downlink;
-        }
-        if self.kind != other.kind {
-            return self.kind < other.kind;
-        }
-        self.channel < other.channel
-    }
-
-    fn filler() -> SummaryKey {
-        SummaryKey {
-            receiver: 0,
-            downlink: 0,
-            kind: 0,
-            channel: 0,
-        }
     }
 }

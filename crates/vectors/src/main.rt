@@ -5,70 +5,38 @@
 mod kinds;
 mod words;
 
-use crate::kinds::{
-    clock_items, clock_text, label_items, label_text, orbit_items, orbit_text, ramp_items,
-    ramp_text,
-};
-use crate::words::{hex, packet_in};
-use label::label::Label;
-use orbit::orbit::Orbit;
-use record::fault::RecordFault;
-use record::kind::{Packed, pack, unpack};
-use station::clock::Clock;
-use station::ramp::Ramp;
-use std::alloc::{AllocError, Global};
+use crate::kinds::Spelled;
+use crate::words::packet_in;
+use label::label::LabelItems;
+use orbit::items::OrbitItems;
+use record::lawful::Lawful;
+use record::packing::{pack, unpack};
+use station::clock::items::ClockItems;
+use station::ramp::items::RampItems;
+use std::alloc::Global;
 use std::io::{BufRead, BufReader};
 
 /// The packet of a record, or the refusal.
-fn formed<K: Packed + Drop>(
-    heap: Global,
-    record: Result<K, RecordFault>,
-) -> Result<String, AllocError> {
-    match record {
-        Ok(record) => hex(heap, &pack(&record)),
-        Err(fault) => {
-            let refusal = fault.refusal();
-            format!(in heap; "{refusal}")
-        }
-    }
+fn form<I: Spelled>(heap: Global, words: &[&str]) -> anyhow::Result<String> {
+    Ok(match Lawful::new(I::from_words(words)) {
+        Ok(record) => hex::encode(heap, pack(&record))?,
+        Err(fault) => format!(in heap; "{fault}")?,
+    })
 }
 
-/// The line of a refusal.
-fn refused(heap: Global, fault: RecordFault) -> Result<String, AllocError> {
-    let refusal = fault.refusal();
-    format!(in heap; "{refusal}")
+/// The items in a packet, or the refusal.
+fn read<I: Spelled>(heap: Global, words: &[&str]) -> anyhow::Result<String> {
+    Ok(match unpack::<I>(&packet_in(words), 7) {
+        Ok(record) => record.items().text(heap)?,
+        Err(fault) => format!(in heap; "{fault}")?,
+    })
 }
 
-/// Forms a record of the items behind the first two words.
-fn form(heap: Global, words: &[&str]) -> Result<String, AllocError> {
+/// The answer to a line about one kind.
+fn answer<I: Spelled>(heap: Global, words: &[&str]) -> anyhow::Result<String> {
     match words {
-        [_, "orbit", ..] => formed(heap, Orbit::new(orbit_items(words))),
-        [_, "ramp", ..] => formed(heap, Ramp::new(ramp_items(words))),
-        [_, "clock", ..] => formed(heap, Clock::new(clock_items(words))),
-        _ => formed(heap, Label::new(label_items(words))),
-    }
-}
-
-/// Reads the packet in the third word.
-fn read(heap: Global, words: &[&str]) -> Result<String, AllocError> {
-    let packet = packet_in(words);
-    match words {
-        [_, "orbit", ..] => match unpack::<Orbit>(&packet, 7) {
-            Ok(record) => orbit_text(heap, &record.items()),
-            Err(fault) => refused(heap, fault),
-        },
-        [_, "ramp", ..] => match unpack::<Ramp>(&packet, 7) {
-            Ok(record) => ramp_text(heap, &record.items()),
-            Err(fault) => refused(heap, fault),
-        },
-        [_, "clock", ..] => match unpack::<Clock>(&packet, 7) {
-            Ok(record) => clock_text(heap, &record.items()),
-            Err(fault) => refused(heap, fault),
-        },
-        _ => match unpack::<Label>(&packet, 7) {
-            Ok(record) => label_text(heap, &record.items()),
-            Err(fault) => refused(heap, fault),
-        },
+        ["form", ..] => form::<I>(heap, words),
+        _ => read::<I>(heap, words),
     }
 }
 
@@ -77,9 +45,12 @@ fn run(rt: &HostRuntime) -> anyhow::Result<()> {
     for line in BufReader::new(heap, rt.stdin())?.lines(heap) {
         let line = line?;
         let words: Vec<&str> = line.as_str().split(' ').collect(heap)?;
-        let answer = match words.as_slice() {
-            ["form", ..] => form(heap, words.as_slice())?,
-            _ => read(heap, words.as_slice())?,
+        let words = words.as_slice();
+        let answer = match words {
+            [_, "orbit", ..] => answer::<OrbitItems>(heap, words)?,
+            [_, "ramp", ..] => answer::<RampItems>(heap, words)?,
+            [_, "clock", ..] => answer::<ClockItems>(heap, words)?,
+            _ => answer::<LabelItems>(heap, words)?,
         };
         println!(rt; "{answer}")?;
     }

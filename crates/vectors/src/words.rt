@@ -1,21 +1,27 @@
 //! Numbers and packets written as words.
 use packet::Packet;
-use std::alloc::{AllocError, Global};
-use std::fmt::Write;
+use std::num::ParseIntError;
+use std::str::FromStr;
 
-/// The unsigned number in a word; the largest where it is none.
-pub(crate) fn natural(words: &[&str], place: usize) -> u64 {
-    match words.get(place) {
-        Some(word) => word.parse::<u64>().unwrap_or(u64::MAX),
-        None => u64::MAX,
-    }
+/// A number that stands in a word.
+pub(crate) trait Integer: FromStr<Err = ParseIntError> {
+    /// What a word that is no number stands for.
+    const OTHERWISE: Self;
 }
 
-/// The signed number in a word; the largest where it is none.
-pub(crate) fn integer(words: &[&str], place: usize) -> i64 {
-    match words.get(place) {
-        Some(word) => word.parse::<i64>().unwrap_or(i64::MAX),
-        None => i64::MAX,
+impl Integer for u64 {
+    const OTHERWISE: u64 = u64::MAX;
+}
+
+impl Integer for i64 {
+    const OTHERWISE: i64 = i64::MAX;
+}
+
+/// The number in a word; the largest where it is none.
+pub(crate) fn number<N: Integer>(words: &[&str], place: usize) -> N {
+    match words.get(place).map(|word| word.parse::<N>()) {
+        Some(Ok(number)) => number,
+        _ => N::OTHERWISE,
     }
 }
 
@@ -33,20 +39,8 @@ pub(crate) fn packet_in(words: &[&str]) -> Packet {
     let Some(word) = words.get(2) else {
         return packet;
     };
-    let digits = word.as_bytes();
-    for (i, byte) in packet.iter_mut().enumerate() {
-        if 2 * i + 1 < digits.len() {
-            *byte = (digit(digits[2 * i]) << 4) | digit(digits[2 * i + 1]);
-        }
+    for (byte, pair) in packet.iter_mut().zip(word.as_bytes().chunks_exact(2)) {
+        *byte = (digit(pair[0]) << 4) | digit(pair[1]);
     }
     packet
-}
-
-/// A packet as hexadecimal digits.
-pub(crate) fn hex(heap: Global, packet: &Packet) -> Result<String, AllocError> {
-    let mut text = String::new(heap);
-    for byte in packet {
-        let _ = write!(text, "{byte:02x}");
-    }
-    Ok(text)
 }

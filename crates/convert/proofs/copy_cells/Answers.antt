@@ -1,5 +1,4 @@
-use Rattle.std.proofs.Common.{◌≡◌, ℕ, ◌++◌, length, take, drop, set, Ok, sym, refl, ap, ◌∙◌, arith}
-use Rattle.std.proofs.lemmas.List.{take_all}
+use Rattle.std.proofs.Common.{◌≡◌, ℕ, ◌++◌, take, drop, set, Ok, sym, ap, ◌∙◌, arith}
 use Rattle.carrier.specs.Cells.{cell_at, reply, filled, holds}
 use Rattle.carrier.proofs.Rows.{whole_at, stored_ok}
 use Rattle.convert.proofs.Copies.{copied_at, copied_more}
@@ -41,14 +40,3 @@ loop-k-preserved g c =
           ∙ copied_more us vs k (holds w.0) (omega arith) (omega (arith, c.requires.room)) w.1,
       c.put.ensures.stays ∙ c.loop-k.invariant.1,
     )
-
-pub returns : goal.returns
-returns g c =
-    let us = g.S.Carrier.cells c.args.source.now in
-    let vs = g.T.Carrier.cells c.args.target.now in
-    let e : c.loop-k.k ≡ length us = omega arith in
-    record {
-      done = refl;
-      copies = c.loop-k.invariant.0 ∙ ap (λ x. take x us ++ drop x vs) e ∙ ap (λ x. x ++ drop (length us) vs) (take_all (length us) us (omega arith));
-      stays = c.loop-k.invariant.1;
-    }

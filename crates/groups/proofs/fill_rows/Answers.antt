@@ -29,8 +29,8 @@ turned g c =
     let inside : c.loop-k.k < c.args.end + 1 = omega arith in
     elim c.if-is_header_like.branch [
       | then-is_header_like w ↦
-          let q : to_z w32 (of_z w32 w.from_packet-header.result.key) ≡ w.from_packet-header.result.key = search rules in
-          rw (w.rows-is, w.n-is, q, w.from_packet-header.ensures) (header_turn _ _ _ _ _ _ (omega arith) c.loop-k.invariant inside _ c.in_ok-packet.ensures (sym w.if-is_header_like.ensures))
+          let q : to_z w32 (of_z w32 w.from-header.result.key) ≡ w.from-header.result.key = search rules in
+          rw (w.rows-is, w.n-is, q, w.from-header.ensures) (header_turn _ _ _ _ _ _ (omega arith) c.loop-k.invariant inside _ c.in_ok-packet.ensures (sym w.if-is_header_like.ensures))
       | else-is_header_like w ↦
           rw (w.rows-is, w.n-is) (data_turn _ _ _ _ _ _ (row_of (pos 0) 0 0 0) c.loop-k.invariant inside _ c.in_ok-packet.ensures (sym w.if-is_header_like.ensures))
     ]

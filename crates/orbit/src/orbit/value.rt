@@ -24,25 +24,25 @@ fn joined(whole: i64, part: i64) -> i64
     whole * 1_000_000_000 + part
 }
 
-impl Orbit {
-    /// The observable.
-    pub fn value(&self) -> Value
-        ensures { result ≡ value_of (items_of self.now) }
-    {
-        if self.kind == 41 {
-            Value::Nanoseconds {
-                whole: joined(self.channel as i64, self.whole),
-                part: self.part,
-            }
-        } else {
-            Value::Billionths(joined(self.whole, self.part))
+/// The observable.
+pub fn value_of(orbit: &Orbit) -> Value
+    ensures { result ≡ value_of (items_of orbit.now) }
+{
+    let items = orbit.items();
+    if items.kind == 41 {
+        Value::Nanoseconds {
+            whole: joined(items.channel as i64, items.whole),
+            part: items.part,
         }
+    } else {
+        Value::Billionths(joined(items.whole, items.part))
     }
+}
 
-    /// The reference frequency, in millihertz.
-    pub fn reference(&self) -> u64
-        ensures { result ≡ reference_of (items_of self.now) }
-    {
-        self.high * 0x100_0000 + self.low
-    }
+/// The reference frequency, in millihertz.
+pub fn reference_of(orbit: &Orbit) -> u64
+    ensures { result ≡ reference_of (items_of orbit.now) }
+{
+    let items = orbit.items();
+    items.high * 0x100_0000 + items.low
 }

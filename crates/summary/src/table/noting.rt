@@ -1,11 +1,12 @@
 //! Noting records in a table, by their keys.
-ghost use Rattle.std.specs.Prelude.{◌≡◌, ℕ, ◌+◌, ◌^◌, ◌<◌, ◌≤◌, false, [], ◌∷◌, ◌++◌, take, drop, slice_index_or};
-ghost use Rattle.summary.specs.declared.table.Row.{Row};
+ghost use Rattle.std.specs.Prelude.{◌≡◌, ◌+◌, ◌^◌, ◌<◌, [], take, IfOk, IfErr};
+ghost use Rattle.summary.specs.Places.{IsRowOf, IsGapFor};
 ghost use Rattle.summary.specs.Rows.{fresh, more, note, total_of};
 ghost use Rattle.summary.specs.Tables.{rows_in};
 
 use crate::key::Key;
 use crate::table::{ROOM, Row, Table};
+use arrayvec::ArrayVec;
 
 /// The row of a key that is met for the first time.
 fn fresh_row<K: Key>(key: K, time: u64) -> Row<K>
@@ -38,8 +39,7 @@ impl<K: Key> Table<K> {
         ensures { rows_in result ≡ [] }
     {
         Table {
-            rows: [fresh_row(K::filler(), 0); ROOM],
-            len: 0,
+            rows: ArrayVec::new(),
         }
     }
 
@@ -47,49 +47,30 @@ impl<K: Key> Table<K> {
     pub(crate) fn clear(&mut self)
         ensures { rows_in self.new ≡ [] }
     {
-        self.len = 0;
+        self.rows.clear();
     }
 
-    /// Where the key's row stands or would stand: behind the rows of lower keys.
-    fn place_of(&self, key: &K) -> usize
-        ensures within { result ≤ self.now.len }
-        ensures split { (t : ℕ) → note K.Key.lt key.now t (rows_in self.now) ≡ take result self.now.rows ++ note K.Key.lt key.now t (drop result (rows_in self.now)) }
-        ensures stops { (d : Row K) → result < self.now.len → K.Key.lt (slice_index_or self.now.rows result d).key key.now ≡ false }
+    /// Where the key's row stands, or where it would stand: behind the rows of lower keys.
+    fn place_of(&self, key: &K) -> Result<usize, usize>
+        ensures found { IfOk result (IsRowOf K.Key.lt key.now (rows_in self.now)) }
+        ensures absent { IfErr result (IsGapFor K.Key.lt key.now (rows_in self.now)) }
     {
-        let mut i = 0;
-        while i < self.len && self.rows[i].key.below(key) {
-            i += 1;
-        }
-        i
+        self.rows.binary_search_by_key(key, |row| row.key)
     }
 
-    /// Puts a row at a place; of a full table the last row falls out.
-    fn insert_at(&mut self, i: usize, row: Row<K>)
-        requires { i ≤ self.old.len }
-        ensures { rows_in self.new ≡ take 64 (take i self.old.rows ++ row ∷ drop i (rows_in self.old)) }
-    {
-        let mut carried = row;
-        for j in i..self.len {
-            let next = self.rows[j];
-            self.rows[j] = carried;
-            carried = next;
-        }
-        if self.len < ROOM {
-            self.rows[self.len] = carried;
-            self.len += 1;
-        }
-    }
-
-    /// Notes one record of a key; of a full table the last row falls out where the key is new.
+    /// Notes one record of a key: one more in the key's row, or a row of its own among the first 64.
     pub(crate) fn note(&mut self, key: K, time: u64)
         requires { total_of (rows_in self.old) + 1 < 2 ^ 32 }
         ensures { rows_in self.new ≡ take 64 (note K.Key.lt key time (rows_in self.old)) }
     {
-        let i = self.place_of(&key);
-        if i < self.len && !key.below(&self.rows[i].key) {
-            self.rows[i] = one_more(self.rows[i], time);
-        } else {
-            self.insert_at(i, fresh_row(key, time));
+        match self.place_of(&key) {
+            Ok(i) => self.rows[i] = one_more(self.rows[i], time),
+            Err(i) if i < ROOM => {
+                // Of a full table the last row falls out.
+                self.rows.truncate(ROOM - 1);
+                self.rows.insert(i, fresh_row(key, time));
+            }
+            Err(_) => {}
         }
     }
 }

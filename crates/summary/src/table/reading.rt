@@ -8,38 +8,38 @@ use crate::key::Key;
 use crate::table::{ROOM, Row, Table};
 
 impl<K: Key> Table<K> {
+    /// The rows, in the order of their keys.
+    pub fn rows(&self) -> &[Row<K>]
+        ensures { result.now ≡ rows_in self.now }
+    {
+        &self.rows
+    }
+
     /// How many rows there are.
     pub fn count(&self) -> usize
         ensures { result ≡ length (rows_in self.now) }
     {
-        self.len
+        self.rows.len()
     }
 
     /// Row `i`, counted from 0, if there is one.
     pub fn row(&self, i: usize) -> Option<Row<K>>
         ensures { result ≡ slice_get (rows_in self.now) i }
     {
-        if i < self.count() {
-            Some(self.rows[i])
-        } else {
-            None
-        }
+        self.rows.get(i).copied()
     }
 
     /// Whether the table has no room left.
     pub fn is_full(&self) -> bool
         ensures { result ≡ (length (rows_in self.now) == 64) }
     {
-        self.count() == ROOM
+        self.rows.is_full()
     }
 
     /// The key of the last row of a full table; the next pass looks above it.
     pub fn highest(&self) -> Option<K>
         ensures { result ≡ highest_of (rows_in self.now) }
     {
-        match self.row(ROOM - 1) {
-            Some(row) => Some(row.key),
-            None => None,
-        }
+        self.row(ROOM - 1).map(|row| row.key)
     }
 }

@@ -1,18 +1,15 @@
-use Rattle.std.proofs.Common.{◌≡◌, ap, ◌∙◌, arith, rules}
-use Rattle.record.specs.Rules.{lowest}
+use Rattle.std.proofs.Common.{ap, arith}
 use Rattle.record.specs.declared.fault.RecordFault.TheVariants.{BadItem}
-use Rattle.label.specs.Identifiers.{bad_identifier}
-use Rattle.label.proofs.IdentifierLaws.{same, none}
+use Rattle.label.proofs.IdentifierLaws.{all_alike, first_differs}
 use Rattle.label.proofs.identifier.check_identifier.Goals as goal
 
-pub returns-in-0 : goal.returns-in-0
-unfolding bad_identifier
-returns-in-0 c =
-    let e : c.lowest_broken.result ≡ bad_identifier c.args.packet.now = c.lowest_broken.ensures ∙ ap (lowest 1) c.same_characters.ensures in
-    same c.args.packet.now (search rules) (omega arith)
+pub returns-in-None : goal.returns-in-None
+returns-in-None c = all_alike c.args.packet.now c.told-packet c.in-None.ensures
 
-pub returns-in_default : goal.returns-in_default
-unfolding bad_identifier
-returns-in_default c =
-    let e : c.lowest_broken.result ≡ bad_identifier c.args.packet.now = c.lowest_broken.ensures ∙ ap (lowest 1) c.same_characters.ensures in
-    (λ q. let z = ap bad_identifier q ∙ none in omega arith, ap (BadItem c.args.number) e)
+pub overflow_add-result : goal.overflow_add-result
+overflow_add-result c = let f = first_differs c.args.packet.now c.told-packet c.in-Some.place c.in-Some.ensures in omega arith
+
+pub returns-in-Some : goal.returns-in-Some
+returns-in-Some c =
+    let f = first_differs c.args.packet.now c.told-packet c.in-Some.place c.in-Some.ensures in
+    (f.1, ap (BadItem c.args.number) f.2)

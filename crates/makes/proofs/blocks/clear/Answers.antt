@@ -1,18 +1,12 @@
-use Rattle.std.proofs.Common.{◌≡◌, length, sym, ap, ◌∙◌, arith, below_more}
+use Rattle.std.proofs.Common.{◌≡◌, length, sym, ap, ◌∙◌, arith}
 use Rattle.makes.specs.Shapes.{count_for, count_of, cells_of}
 use Rattle.makes.proofs.Rows.{length_cells}
 use Rattle.makes.proofs.Clears.{cells_const}
 use Rattle.makes.proofs.blocks.clear.Goals as goal
 
-pub loop-k-preserved : goal.loop-k-preserved
-loop-k-preserved g c = (
-  below_more _ _ (λ i l. c.clear_cell.ensures.kept i (c.loop-k.invariant.0 i l)) c.clear_cell.ensures.here,
-  λ j h. c.clear_cell.ensures.others j (h c.loop-k.k (omega arith)) ∙ c.loop-k.invariant.1 j (λ i l. h i (omega arith)),
-)
-
 pub returns : goal.returns
 returns g c =
-    let sh = g.L.Layout.shape in
+    let sh = g.L.Layout.shape c.args.layout in
     let e = length_cells sh c.args.memory.now in
     let n : count_of sh c.loop-k.memory ≡ count_of sh c.args.memory.now = ap (count_for sh) c.loop-k.auto.memory in
     record {

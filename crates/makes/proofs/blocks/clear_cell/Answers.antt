@@ -7,8 +7,8 @@ use Rattle.makes.proofs.blocks.clear_cell.Goals as goal
 
 pub returns : goal.returns
 returns g c =
-    let sh = g.L.Layout.shape in
-    let s = g.met.L.Layout.sound in
+    let sh = g.L.Layout.shape c.args.layout in
+    let s = g.met.L.Layout.sound c.args.layout in
     let k = c.args.k in
     let m = c.args.memory.now in
     let n = c.set_fixed.new.memory in

@@ -1,15 +1,9 @@
-use Rattle.std.proofs.Common.{length, arith, rules}
-use Rattle.makes.proofs.Rows.{count_fits, cells_whole}
+use Rattle.std.proofs.Common.{rules}
+use Rattle.makes.proofs.Rows.{length_cells, cells_whole}
 use Rattle.makes.proofs.blocks.count_of.Goals as goal
 
-pub overflow_mul-memory : goal.overflow_mul-memory
-overflow_mul-memory g c =
-    let h = count_fits g.L.Layout.shape g.met.L.Layout.sound (length c.args.memory.now) in
-    simp (c.block.ensures, c.packets.ensures) (omega (arith, h))
+pub returns-clause-cells : goal.returns-clause-cells
+returns-clause-cells g c = let e = length_cells (g.L.Layout.shape c.args.layout) c.args.memory.now in search rules
 
-pub returns : goal.returns
-returns g c =
-    record {
-      answer = search rules;
-      whole = cells_whole g.L.Layout.shape g.met.L.Layout.sound c.args.memory.now (λ j. search rules);
-    }
+pub returns-clause-whole : goal.returns-clause-whole
+returns-clause-whole g c = cells_whole (g.L.Layout.shape c.args.layout) (g.met.L.Layout.sound c.args.layout) c.args.memory.now (λ j. search rules)

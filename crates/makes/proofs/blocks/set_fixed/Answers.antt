@@ -4,20 +4,12 @@ use Rattle.makes.proofs.Rows.{fixed-within}
 use Rattle.makes.proofs.Clears.{set_right, set_others, all_right}
 use Rattle.makes.proofs.blocks.set_fixed.Goals as goal
 
-pub overflow_add-memory : goal.overflow_add-memory
-overflow_add-memory g c =
-    omega (arith, fixed-within g.L.Layout.shape g.met.L.Layout.sound _ c.fixed-place-items.ensures c.loop-place.place-index c.loop-place-test.true)
-
-pub bounds-memory-start : goal.bounds-memory-start
-bounds-memory-start g c =
-    omega (arith, fixed-within g.L.Layout.shape g.met.L.Layout.sound _ c.fixed-place-items.ensures c.loop-place.place-index c.loop-place-test.true)
-
 pub loop-place-preserved : goal.loop-place-preserved
 loop-place-preserved g c =
     let xs = c.fixed-place-items.result.now in
-    let h = fixed-within g.L.Layout.shape g.met.L.Layout.sound xs c.fixed-place-items.ensures c.loop-place.place-index c.loop-place-test.true in
+    let h = fixed-within (g.L.Layout.shape c.args.layout) (g.met.L.Layout.sound c.args.layout) xs c.fixed-place-items.ensures c.loop-place.place-index c.loop-place-test.true in
     let P : List (ℕ × ℕ) → Type 0 = λ ys. Rising 0 ys in
-    let r = subst P (sym c.fixed-place-items.ensures) g.met.L.Layout.sound.rising in (
+    let r = subst P (sym c.fixed-place-items.ensures) (g.met.L.Layout.sound c.args.layout).rising in (
       set_right xs r c.args.start c.loop-place.place-index c.loop-place.memory c.loop-place-test.true (omega arith) c.loop-place.invariant.0,
       set_others xs c.args.start c.loop-place.place-index c.loop-place.memory c.args.memory.now c.loop-place.invariant.1,
     )

@@ -1,50 +1,27 @@
-use Rattle.std.proofs.Common.{◌+◌, length, drop, Err, sym, ap, ◌∙◌, rules}
-use Rattle.std.proofs.lemmas.Result.{err_from_is_err_and, MatchResult-from_err}
-use Rattle.record.specs.Kinds.{kind_by}
-use Rattle.reading.specs.Outcomes.{seen}
-use Rattle.reading.specs.Reading.{opened, records}
-use Rattle.reading.proofs.Walks.{grouped-err, grouped-few, grouped-ok}
+use Rattle.std.proofs.Common.{Err, ap, ◌∙◌, rules}
+use Rattle.std.proofs.lemmas.Result.{err_from_is_err_and}
+use Rattle.record.specs.Kinds.{kind_of}
+use Rattle.reading.proofs.Walks.{owner_of_lem, grouped_err, grouped_few, grouped_ok}
 use Rattle.reading.proofs.group.walk_group.Goals as goal
 
-pub returns-in_err-records : goal.returns-in_err-records
-returns-in_err-records g c =
-    let cs = g.C.Carrier.cells c.args.carrier.now in
-    let κ = kind_by g.K.Packed.packed g.K.Packed.unpacked g.K.Packed.bad g.K.RecordKind.foreign g.K.RecordKind.instant g.K.RecordKind.until in
-    let at = c.args.at in
+pub returns-in_err-records-clause-answer : goal.returns-in_err-records-clause-answer
+returns-in_err-records-clause-answer g c =
+    let κ = kind_of g.K.Items g.K.Packed g.K.RecordKind in
     let s = c.in_ok-secondary.secondary in
-    let h = sym c.in_ok-packet.ensures.answer in
-    let e = ap (λ v. opened v 1 c.args.bounds at c.in_ok-packet.packet) (sym c.key_of.ensures) ∙ sym c.in_ok-secondary.ensures in
-    let own = ap (λ v. seen length (records κ v (at + 1) 0 (drop (at + 1) cs))) c.owner_of.ensures in
+    let own = owner_of_lem c.args.owner s _ _ c.unwrap_or-owner.ensures c.from.ensures in
     let p = err_from_is_err_and c.from_residual-in_err-records.result c.from_residual-in_err-records.ensures.1 in
-    record {
-      answer = p.1 ∙ ap Err p.2 ∙ grouped-err κ g.K.RecordKind.key g.K.RecordKind.least c.args.bounds c.args.owner cs at s c.in_ok-packet.packet h e _ (c.in_err-records.ensures.answer ∙ own);
-      within = MatchResult-from_err c.from_residual-in_err-records.result _ _ c.from_residual-in_err-records.ensures.0 (λ _. tt);
-    }
+    p.1 ∙ ap Err p.2 ∙ grouped_err κ g.K.RecordKind.KEY g.K.RecordKind.LEAST _ _ c.args.bounds c.args.owner (g.C.Carrier.cells c.args.carrier.now) c.args.at s c.KEY.ensures c.in_ok-secondary.ensures.answer own _ c.in_err-records.ensures.answer
 
-pub returns-then-records-least_of : goal.returns-then-records-least_of
-returns-then-records-least_of g c =
-    let cs = g.C.Carrier.cells c.args.carrier.now in
-    let κ = kind_by g.K.Packed.packed g.K.Packed.unpacked g.K.Packed.bad g.K.RecordKind.foreign g.K.RecordKind.instant g.K.RecordKind.until in
-    let at = c.args.at in
+pub returns-then-records-LEAST-clause-answer : goal.returns-then-records-LEAST-clause-answer
+returns-then-records-LEAST-clause-answer g c =
+    let κ = kind_of g.K.Items g.K.Packed g.K.RecordKind in
     let s = c.in_ok-secondary.secondary in
-    let h = sym c.in_ok-packet.ensures.answer in
-    let e = ap (λ v. opened v 1 c.args.bounds at c.in_ok-packet.packet) (sym c.key_of.ensures) ∙ sym c.in_ok-secondary.ensures in
-    let own = ap (λ v. seen length (records κ v (at + 1) 0 (drop (at + 1) cs))) c.owner_of.ensures in
-    record {
-      answer = grouped-few κ g.K.RecordKind.key g.K.RecordKind.least c.args.bounds c.args.owner cs at s c.in_ok-packet.packet h e _ (c.in_ok-records.ensures.answer ∙ own) (search rules);
-      within = tt;
-    }
+    let own = owner_of_lem c.args.owner s _ _ c.unwrap_or-owner.ensures c.from.ensures in
+    grouped_few κ g.K.RecordKind.KEY g.K.RecordKind.LEAST _ _ c.args.bounds c.args.owner (g.C.Carrier.cells c.args.carrier.now) c.args.at s c.KEY.ensures c.in_ok-secondary.ensures.answer own _ c.in_ok-records.ensures.answer (search rules)
 
-pub returns : goal.returns
-returns g c =
-    let cs = g.C.Carrier.cells c.args.carrier.now in
-    let κ = kind_by g.K.Packed.packed g.K.Packed.unpacked g.K.Packed.bad g.K.RecordKind.foreign g.K.RecordKind.instant g.K.RecordKind.until in
-    let at = c.args.at in
+pub returns-clause-answer : goal.returns-clause-answer
+returns-clause-answer g c =
+    let κ = kind_of g.K.Items g.K.Packed g.K.RecordKind in
     let s = c.in_ok-secondary.secondary in
-    let h = sym c.in_ok-packet.ensures.answer in
-    let e = ap (λ v. opened v 1 c.args.bounds at c.in_ok-packet.packet) (sym c.key_of.ensures) ∙ sym c.in_ok-secondary.ensures in
-    let own = ap (λ v. seen length (records κ v (at + 1) 0 (drop (at + 1) cs))) c.owner_of.ensures in
-    record {
-      answer = grouped-ok κ g.K.RecordKind.key g.K.RecordKind.least c.args.bounds c.args.owner cs at s c.in_ok-packet.packet h e _ (c.in_ok-records.ensures.answer ∙ own) (search rules);
-      within = c.in_ok-records.ensures.within;
-    }
+    let own = owner_of_lem c.args.owner s _ _ c.unwrap_or-owner.ensures c.from.ensures in
+    grouped_ok κ g.K.RecordKind.KEY g.K.RecordKind.LEAST _ _ c.args.bounds c.args.owner (g.C.Carrier.cells c.args.carrier.now) c.args.at s c.KEY.ensures c.in_ok-secondary.ensures.answer own _ c.in_ok-records.ensures.answer (search rules)

@@ -1,5 +1,5 @@
 use Rattle.std.proofs.Common.{◌≡◌, ◌-◌, ◌≤◌, length, drop}
-use Rattle.record.specs.Kinds.{kind_by}
+use Rattle.record.specs.Kinds.{kind_of}
 use Rattle.reading.specs.Outcomes.{seen}
 use Rattle.reading.specs.Reading.{records}
 use Rattle.reading.proofs.Walks.{onto}
@@ -8,5 +8,5 @@ use Rattle.reading.proofs.group.walk_records.Given as goal
 abbrev pub invariant-loop-k : goal.invariant-loop-k
 invariant-loop-k g l =
     let cs = g.C.Carrier.cells l.carrier in
-    let κ = kind_by g.K.Packed.packed g.K.Packed.unpacked g.K.Packed.bad g.K.RecordKind.foreign g.K.RecordKind.instant g.K.RecordKind.until in
+    let κ = kind_of g.K.Items g.K.Packed g.K.RecordKind in
     (l.k-end ≡ length cs) × (l.initial.first ≤ l.k) × (seen (onto (l.k - l.initial.first)) (records κ l.initial.owner l.k l.last (drop l.k cs)) ≡ seen length (records κ l.initial.owner l.initial.first 0 (drop l.initial.first cs)))

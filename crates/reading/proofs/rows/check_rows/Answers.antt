@@ -1,5 +1,5 @@
 use Rattle.std.proofs.Common.{◌≡◌, ◌+◌, ◌-◌, ◌≤◌, map, length, take, drop, Ok, Err, sym, ap, ◌∙◌, arith}
-use Rattle.std.proofs.lemmas.List.{length-drop}
+use Rattle.std.proofs.lemmas.List.{length-drop, length-map}
 use Rattle.std.proofs.lemmas.Result.{err_from_is_err_and, MatchResult-from_err}
 use Rattle.summary.specs.Rows.{over}
 use Rattle.summary.specs.RowWords.{row_packet}
@@ -9,7 +9,7 @@ use Rattle.summary.specs.Found.{orbits_in}
 use Rattle.summary.proofs.Batches.{over_none}
 use Rattle.reading.specs.Outcomes.{seen}
 use Rattle.reading.specs.Reading.{rows_at}
-use Rattle.reading.proofs.Batches.{all_rows, length_rows, batch-err, batch-ok, batch-all, more, last}
+use Rattle.reading.proofs.Batches.{all_rows, batch-err, batch-ok, batch-all, more, last}
 use Rattle.reading.proofs.rows.check_rows.Goals as goal
 
 pub loop-table-init : goal.loop-table-init
@@ -49,7 +49,7 @@ returns-then-is_none g c =
     let m : n ≡ length rows = c.count-at.ensures in
     let l = last xs c.loop-table.above c.highest-above.result rows n t m c.highest-above.ensures c.if-is_none.ensures in
     let w : length rows ≡ length left = ap length (t ∙ l) in
-    let r : length (map row_packet all) ≡ length all = length_rows row_packet all in
+    let r : length (map row_packet all) ≡ length all = length-map all row_packet in
     let d : at + n - c.args.first ≡ length (map row_packet all) = omega (arith, i.0, i.2) in
     let few = c.count.ensures.few in
     let long = c.count.ensures.answer in

@@ -1,5 +1,5 @@
-use Rattle.std.proofs.Common.{◌≡◌, ◌+◌, ◌-◌, [], take, drop, sym, ap, ◌∙◌, arith, rules}
-use Rattle.std.proofs.lemmas.List.{take_all, length-take}
+use Rattle.std.proofs.Common.{◌≡◌, ◌+◌, ◌-◌, min, [], length, take, drop, sym, ap, ◌∙◌, arith, rules}
+use Rattle.std.proofs.lemmas.List.{take_all}
 use Rattle.summary.specs.Found.{orbits_in}
 use Rattle.summary.specs.Rows.{noted, over, total_of}
 use Rattle.summary.specs.Tables.{rows_in}
@@ -44,7 +44,7 @@ loop-k-preserved g c =
           ap (λ z. rows_in z) w.table-is ∙ w.note_record.ensures ∙ ap (λ z. take 64 (note_in lt of c.args.above z rows)) (sym w.in-Some.is) ∙ sym (turn g c)
       | in_default w ↦
           ap (λ z. rows_in z) w.table-is
-          ∙ sym (take_all 64 rows (rw length-take (omega arith)))
+          ∙ sym (take_all 64 rows c.loop-k.table.within)
           ∙ ap (λ z. take 64 (note_in lt of c.args.above z rows)) (sym w.in_default.is)
           ∙ sym (turn g c)
     ]
@@ -55,8 +55,12 @@ returns g c =
     let of = g.K.Key.keyed in
     let cells = g.C.Carrier.cells c.args.carrier.now in
     let s = c.min-start.result in
-    let all : take (c.loop-k.k - s) (drop s cells) ≡ take c.args.count (drop c.args.from cells) =
-    clipped cells c.args.from c.args.count s (c.loop-k.k - s) (omega arith) (omega arith) in
+    let n = c.loop-k.k - s in
+    let end : c.loop-k.k ≡ s + c.min.result = omega (arith, c.loop-k.auto.k-end, c.loop-k-test.false) in
+    let long = c.count-cells.ensures.answer in
+    let start : s ≡ min c.args.from (length cells) = c.min-start.ensures ∙ ap (min c.args.from) long in
+    let rest : n ≡ min c.args.count (length cells - s) = omega (arith, c.min.ensures) in
+    let all : take n (drop s cells) ≡ take c.args.count (drop c.args.from cells) = clipped cells c.args.from c.args.count s n start rest in
     record {
       rows = c.loop-k.invariant ∙ ap (λ z. take 64 (over lt c.args.above (noted lt of (orbits_in z) []))) all;
       laws = recount lt of g.met.K.Key.ordered _;

@@ -1,44 +1,88 @@
-use Rattle.std.proofs.Common.{◌≡◌, ◌∷◌, ◌++◌, take, drop, set, sym, ap, ◌∙◌, arith}
-use Rattle.std.proofs.lemmas.List.{get_or_default}
-use Rattle.summary.specs.Rows.{fresh, note}
-use Rattle.summary.proofs.Tables.{count_total, merged, fresh_last, fresh_here}
+use Rattle.std.proofs.Common.{◌≡◌, ◌≤◌, length, take, set, length-set, get_or, sym, ap, ◌∙◌, subst, rules, arith}
+use Rattle.std.proofs.lemmas.List.{take_all, length-take}
+use Rattle.std.specs.List.{insert, refill}
+use Rattle.arrayvec.proofs.ArrayVecLemmas.{items-with_items}
+use Rattle.summary.specs.Rows.{fresh, more, note, Ascends}
+use Rattle.summary.specs.Tables.{rows_in}
+use Rattle.summary.proofs.Laws.{ascends_note}
+use Rattle.summary.proofs.Tables.{note_at, note_gap, take-insert, take-insert_past, ascends-take, count_total}
 use Rattle.summary.proofs.table.Table.note.Goals as goal
-use Rattle.summary.proofs.table.Table.note.Goals.{else-i-self-via-then-i-self+else-not-below, else-i-self-via-else-i-self}
 
 pub one_more-requires : goal.one_more-requires
 one_more-requires g c =
-    let h = count_total c.args.self.now.rows c.args.self.now.len c.place_of-i.result c.index-self-i-then-not-below.result (omega arith) (omega arith) in
-    omega arith
+    let rows = rows_in c.args.self.now in
+    let d = c.index-deref-i.result in
+    let h = count_total rows c.in-Ok.i d c.in-Ok.ensures.found.in_range in
+    let e : d ≡ get_or rows c.in-Ok.i d = c.index-deref-i.is ∙ ap (λ z. get_or z c.in-Ok.i d) c.deref.ensures.0 in
+    omega (arith, ap (λ z. z.count) e)
 
-pub returns-then-not-below : goal.returns-then-not-below
-returns-then-not-below g c =
-    let xs = c.args.self.now.rows in
-    let i = c.place_of-i.result in
-    let d = c.index-self-i-then-not-below.result in
-    let same_row = get_or_default xs i d c.index-self-i.result (omega arith) in
-    ap (λ z. take c.args.self.now.len (set xs i z)) c.one_more.ensures
-    ∙ merged g.K.Key.lt c.args.key c.args.time xs c.args.self.now.len i d (omega arith) (omega arith) (omega arith)
-    (c.place_of-i.ensures.stops d (omega arith))
-    (ap (λ z. g.K.Key.lt c.args.key z.key) same_row ∙ sym c.if-not-below.ensures)
-    (c.place_of-i.ensures.split c.args.time)
+-- the rows as they are written back
+written : (g : _) (c : goal.After-self-1 g) →
+    refill (length (rows_in c.args.self.now)) (rows_in c.args.self.now) (set c.deref_mut.result.now c.in-Ok.i c.one_more.result) ≡ set (rows_in c.args.self.now) c.in-Ok.i c.one_more.result
+written g c =
+    items-with_items c.args.self.now.rows (set c.deref_mut.result.now c.in-Ok.i c.one_more.result) (search rules)
+    ∙ ap (λ z. set z c.in-Ok.i c.one_more.result) c.deref_mut.ensures.value
 
-inserted : (g : _) (c : goal.After-insert_at g) →
-    note g.K.Key.lt c.args.key c.args.time (drop c.place_of-i.result (take c.args.self.now.len c.args.self.now.rows))
-    ≡ fresh c.args.key c.args.time ∷ drop c.place_of-i.result (take c.args.self.now.len c.args.self.now.rows)
+-- a record more in the key's row
+merged : (g : _) (c : goal.After-self-1 g) → set (rows_in c.args.self.now) c.in-Ok.i c.one_more.result ≡ note g.K.Key.lt c.args.key c.args.time (rows_in c.args.self.now)
+merged g c =
+    let rows = rows_in c.args.self.now in
+    let i = c.in-Ok.i in
+    let d = c.index-deref-i.result in
+    let e : d ≡ get_or rows i d = c.index-deref-i.is ∙ ap (λ z. get_or z i d) c.deref.ensures.0 in
+    ap (λ z. set rows i z) (c.one_more.ensures ∙ ap (more c.args.time) e)
+    ∙ sym (note_at g.K.Key.lt g.met.K.Key.ordered c.args.key c.args.time rows i d c.in-Ok.ensures.found)
+
+pub invariant_of-self : goal.invariant_of-self
+invariant_of-self g c =
+    let rows = rows_in c.args.self.now in
+    record {
+      within = rw (written g c, length-set) c.args.self.now.within;
+      ascends = subst (Ascends g.K.Key.lt) (sym (written g c ∙ merged g c)) (ascends_note g.K.Key.lt g.met.K.Key.ordered c.args.key c.args.time rows c.args.self.now.ascends);
+    }
+
+pub returns-in-Ok : goal.returns-in-Ok
+returns-in-Ok g c =
+    let rows = rows_in c.args.self.now in
+    let short : length (set rows c.in-Ok.i c.one_more.result) ≤ 64 = rw length-set c.args.self.now.within in
+    written g c.before ∙ sym (take_all 64 _ short) ∙ ap (take 64) (merged g c.before)
+
+pub insert-requires : goal.insert-requires
+insert-requires g c =
+    let rows = rows_in c.args.self.now in
+    let a = c.in-Err.ensures.absent.in_range in
+    let m = ap length c.truncate.ensures.items in
+    let n = length-take 63 rows in
+    (search rules, (omega arith, omega arith))
+
+-- a fresh row in the gap; of a full table the last row falls out
+inserted : (g : _) (c : goal.After-insert g) → c.insert.new.self.items ≡ take 64 (note g.K.Key.lt c.args.key c.args.time (rows_in c.args.self.now))
 inserted g c =
-    elim c.else-i-self.branch [
-      | else-i-self-via-then-i-self+else-not-below w ↦
-          fresh_here g.K.Key.lt c.args.key c.args.time c.args.self.now.rows c.args.self.now.len c.place_of-i.result w.index-self-i.result (omega arith) (omega arith)
-          (c.place_of-i.ensures.stops w.index-self-i.result (omega arith))
-          (sym w.below.ensures ∙ w.if-not-below.false)
-      | else-i-self-via-else-i-self w ↦ fresh_last g.K.Key.lt c.args.key c.args.time c.args.self.now.rows c.args.self.now.len c.place_of-i.result (omega arith)
-    ]
+    let rows = rows_in c.args.self.now in
+    let i = c.in-Err.i in
+    c.insert.ensures.items
+    ∙ ap (λ z. insert z i c.fresh_row.result) c.truncate.ensures.items
+    ∙ ap (insert (take 63 rows) i) c.fresh_row.ensures
+    ∙ sym (take-insert rows 63 i (fresh c.args.key c.args.time) (omega arith))
+    ∙ ap (take 64) (sym (note_gap g.K.Key.lt g.met.K.Key.ordered c.args.key c.args.time rows i c.in-Err.ensures.absent))
 
-pub returns-else-i-self : goal.returns-else-i-self
-returns-else-i-self g c =
-    let xs = c.args.self.now.rows in
-    let i = c.place_of-i.result in
-    c.insert_at.ensures
-    ∙ ap (λ z. take 64 (take i xs ++ z ∷ drop i (take c.args.self.now.len xs))) c.fresh_row.ensures
-    ∙ ap (λ z. take 64 (take i xs ++ z)) (sym (inserted g c))
-    ∙ ap (take 64) (sym (c.place_of-i.ensures.split c.args.time))
+pub invariant_of-self-then-i-lt-ROOM : goal.invariant_of-self-then-i-lt-ROOM
+invariant_of-self-then-i-lt-ROOM g c =
+    let rows = rows_in c.args.self.now in
+    record {
+      within = rw (inserted g c, length-take) (omega arith);
+      ascends = subst (Ascends g.K.Key.lt) (sym (inserted g c)) (ascends-take g.K.Key.lt 64 _ (ascends_note g.K.Key.lt g.met.K.Key.ordered c.args.key c.args.time rows c.args.self.now.ascends));
+    }
+
+pub returns-in-Err : goal.returns-in-Err
+returns-in-Err g c = inserted g c.before
+
+pub returns-else-i-lt-ROOM : goal.returns-else-i-lt-ROOM
+returns-else-i-lt-ROOM g c =
+    let rows = rows_in c.args.self.now in
+    let i = c.in-Err.i in
+    let gap = c.in-Err.ensures.absent in
+    let w : length rows ≤ 64 = c.args.self.now.within in
+    sym (take_all 64 rows w)
+    ∙ sym (take-insert_past rows 64 i (fresh c.args.key c.args.time) (omega arith) (omega (arith, gap.in_range)))
+    ∙ ap (take 64) (sym (note_gap g.K.Key.lt g.met.K.Key.ordered c.args.key c.args.time rows i gap))
