@@ -1,4 +1,4 @@
-//! Faults and records as plain numbers of 64 bits.
+//! Faults and records as plain numbers of 64 bits. A struct for each, with numbers for what may be absent: so C programs get them.
 
 /// What a refusal tells; what does not apply is 0.
 #[derive(Clone, Copy)]

@@ -62,6 +62,8 @@ fn pick_plain<K: RecordKind, N: From<Lawful<K>> + Drop>(
     }
 }
 
+// Three calls that differ in a type, with four parameters each: C has no generic call, and no pair of a result and a fault.
+
 /// Reads cell `k` of a disk image as an orbit record. The result is 0, and `found` has the items; or it is the number of
 /// the fault, which `fault` tells.
 #[unsafe(no_mangle)]

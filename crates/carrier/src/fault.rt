@@ -15,6 +15,7 @@ pub enum CarrierFault {
 }
 
 /// What a refusal tells; what does not apply is 0.
+// Numbers, and no enum: programs print them and C programs get them; the enums are the faults.
 #[derive(Clone, Copy, PartialEq, Eq, Debug)]
 pub struct Refusal {
     pub number: usize,

@@ -14,7 +14,7 @@ use reading::read::read;
 use reading::report::Report;
 
 /// A group of a file: its key and secondary key, its header's packet, and how many data packets it has.
-#[derive(Clone, Copy, PartialEq, Eq, Debug)]
+#[derive(Clone, Copy, PartialEq, Eq, Debug, Default)]
 pub struct GroupRow {
     pub key: i32,
     pub secondary: u32,
@@ -37,7 +37,7 @@ fn fill_rows<C: Carrier>(carrier: &C, end: usize, rows: &mut [GroupRow]) -> Resu
     ensures answer { result ≡ listed (length rows.old) (reads (C.Carrier.cells carrier.now)) }
     ensures shows { rows.new ≡ shown (reads (C.Carrier.cells carrier.now)) rows.old }
 {
-    // The number of rows so far: it is the answer, and the last of them is the row in which data counts.
+    // Counted by hand: the number of rows so far is the answer, and tells the last row, in which data counts.
     let mut n = 0;
     for k in 0..=end {
         let packet = packet_at(carrier, k)?;
@@ -60,6 +60,7 @@ fn fill_rows<C: Carrier>(carrier: &C, end: usize, rows: &mut [GroupRow]) -> Resu
 /// One row for each group of the file, the end among them: its key, secondary key, header's packet and number of data
 /// packets. Answers how many groups there are; the rows behind them are left. Refused as reading is, and with `TooFewRows`
 /// where the rows are fewer than the groups; then no row is touched.
+// The rows are the caller's, and how many were filled is the answer: the library has no heap.
 pub fn groups<C: Carrier>(carrier: &C, rows: &mut [GroupRow]) -> Result<usize, FileFault>
     ensures answer { result ≡ listed (length rows.old) (reads (C.Carrier.cells carrier.now)) }
     ensures shows { rows.new ≡ shown (reads (C.Carrier.cells carrier.now)) rows.old }

@@ -3,6 +3,7 @@ ghost use Rattle.std.specs.Prelude.{◌≡◌};
 ghost use Rattle.label.specs.Calendar.{days_in, is_date, is_time};
 
 /// The days of a month, in a leap year or another.
+// The flag says what year it is, not whether the month is there.
 fn days_in(month: u64, leap: bool) -> u64
     ensures { result ≡ days_in month leap }
 {

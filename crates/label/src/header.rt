@@ -19,6 +19,7 @@ pub struct Header {
 
 impl Header {
     /// The packet of the header, from which it can be read again.
+    // No `From`: a packet is an array, which is the library's.
     pub fn to_packet(&self) -> Packet
         ensures bytes { result ≡ bytes_of (header_words self.now) }
         ensures header { header_like result ≡ true }
@@ -54,6 +55,7 @@ impl From<&Packet> for Header {
 }
 
 /// The secondary key of a header, which has to lie within these bounds; refused at the lowest wrong item of 2, 3, 4, 7, 8 and 9.
+// A packet and its number apart, as in `unpack`; the bounds are two numbers, since a range's bounds are methods in clauses.
 pub fn check_header(
     packet: &Packet,
     number: usize,
@@ -88,6 +90,7 @@ pub fn check_header(
 pub fn spare_item(packet: &Packet) -> Option<usize>
     ensures { result ≡ broken (bad_spare packet.now) }
 {
+    // The last three rules of `check_header`, in a list of their own, so that each list is the definition's.
     let words = words_of(packet);
     lowest_broken(&[
         true,

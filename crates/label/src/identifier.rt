@@ -25,6 +25,7 @@ fn first_difference(packet: &Packet) -> Option<usize>
 }
 
 /// Whether the packet with this number is the identifier; refused at the lowest character that differs.
+// A packet and its number apart, as in `unpack`.
 pub fn check_identifier(packet: &Packet, number: usize) -> Result<(), RecordFault>
     ensures { MatchResult result (λ _. packet.now ≡ identifier) (λ e. (packet.now ≢ identifier) × (e ≡ BadItem number (bad_identifier packet.now))) }
 {

@@ -13,6 +13,7 @@ pub mod kind;
 /// The items of a label as given, lawful or not. A text of eight characters is one number, its first in the top byte.
 #[derive(Clone, Copy, PartialEq, Eq, Debug)]
 pub struct LabelItems {
+    // Texts too are numbers, as every item: whoever forms a label gives them so.
     pub system: u64,
     pub program: u64,
     pub spacecraft: u64,
@@ -26,6 +27,7 @@ pub struct LabelItems {
 pub type Label = Lawful<LabelItems>;
 
 /// The number of the spacecraft.
+// A function: `Label` is an instance of a type of another crate, which takes no methods here.
 pub fn spacecraft_of(label: &Label) -> u64
     ensures { result ≡ label.now.items.spacecraft }
 {

@@ -4,8 +4,8 @@ use Rattle.std.proofs.lemmas.List.{get_or-set_same, get_or-set_other}
 use Rattle.std.proofs.lemmas.Bool.{eq-eqb, cond-true, cases_order, cases_eq}
 use Rattle.packet.specs.Packets.{filler}
 use Rattle.carrier.specs.Cells.{holds}
-use Rattle.makes.specs.Shapes.{Shape, Sound, Rising, NotFixed, Apart, wrong_in, tab, start_of, place_of, cell_from, cell_of, count_of, cells_of}
-use Rattle.makes.proofs.Rows.{Beside, block-before, fixed_apart, fixed_at, wrong_same, wrong_kept, packet-kept, part_same, held_clean}
+use Rattle.makes.specs.Shapes.{Shape, Sound, Rising, NotFixed, Apart, wrong_in, tab, start_of, place_of, cell_from, cell_of, count_for, count_of, cells_of}
+use Rattle.makes.proofs.Rows.{Beside, length_cells, block-before, fixed_apart, fixed_at, wrong_same, wrong_kept, packet-kept, part_same, held_clean}
 
 rising_low : (low : ℕ) (xs : List (ℕ × ℕ)) (i : ℕ) → Rising low xs → i < length xs → low ≤ (get_or xs i (0, 0)).0
 rising_low low [] i r h = absurd (omega arith)
@@ -97,6 +97,10 @@ tab_const (suc n) f x h =
     let r = tab_const n (λ i. f (suc i)) x (λ i l. h (suc i) (omega arith)) in
     cc
 
-pub cells_const : (sh : Shape) (m : List ℕ) (n : ℕ) → count_of sh m ≡ n → ((i : ℕ) → i < n → cell_of sh m i ≡ holds filler) → cells_of sh m ≡ replicate n (holds filler)
+-- where each cell of a memory as long as m is filler, its cells are as many fillers as m has cells
+pub cells_const : (sh : Shape) (m n : List ℕ) → length n ≡ length m → ((i : ℕ) → i < length (cells_of sh m) → cell_of sh n i ≡ holds filler) → cells_of sh n ≡ replicate (length (cells_of sh m)) (holds filler)
 unfolding cells_of
-cells_const sh m n e h = ap (λ x. tab x (cell_of sh m)) e ∙ tab_const n (cell_of sh m) (holds filler) h
+cells_const sh m n e h =
+    ap (λ x. tab (count_for sh x) (cell_of sh n)) e
+    ∙ tab_const (count_of sh m) (cell_of sh n) (holds filler) (λ i l. h i (omega (arith, length_cells sh m)))
+    ∙ ap (λ x. replicate x (holds filler)) (sym (length_cells sh m))

@@ -4,6 +4,7 @@ ghost use Rattle.makes.specs.Shapes.{Shape, Sound, disk, block1200, block4800};
 ghost use Rattle.std.proofs.Common.{rules};
 
 /// How a carrier lays its packets out in blocks.
+// Four methods, and no struct of the four: where the layout's type is known each is a constant when it is compiled.
 pub trait Layout: Copy {
     ghost shape: { Self → Shape };
 

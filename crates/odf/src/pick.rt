@@ -29,6 +29,7 @@ pub fn packet_at<C: Carrier>(carrier: &C, k: usize) -> Result<Packet, RecordFaul
 pub fn pick<K: RecordKind, C: Carrier>(carrier: &C, k: usize) -> Result<Lawful<K>, FileFault>
     ensures { MatchResult result (λ x. cell_at (C.Carrier.cells carrier.now) k ≡ Some (holds (bytes_of (packed_by K.Items K.Packed.own x)))) (λ e. (e ≡ pick_fault (bad_by K.Items K.Packed.own) k (cell_at (C.Carrier.cells carrier.now) k)) × ((x : Lawful K K.Items) → cell_at (C.Carrier.cells carrier.now) k ≢ Some (holds (bytes_of (packed_by K.Items K.Packed.own x))))) }
 {
+    // Reading and the recount look at a packet so too, but refuse otherwise, or not at all.
     let packet = packet_at(carrier, k)?;
     if is_header_like(&packet) {
         return Err(FileFault::Misplaced { packet: k });

@@ -34,6 +34,7 @@ fn convert_carrier<S: Carrier>(heap: Global, source: &S, make: Make) -> Result<C
 }
 
 /// The same of the bytes of a file.
+// A function of its own, since its clause is what the program promises of files.
 fn convert_file(heap: Global, bytes: &[u8], from: Make, to: Make) -> Result<Converted, Problem>
     ensures { MatchResult result (λ d. Gives (shape_of to) (cells_of (shape_of from) bytes.now) d.memory.items d.packets) (λ p. Fails (cells_of (shape_of from) bytes.now) p) }
 {

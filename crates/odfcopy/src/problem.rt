@@ -7,6 +7,7 @@ use std::alloc::AllocError;
 use std::fmt;
 
 /// Why nothing was copied.
+// `odfpick` has an enum of its own: what can go wrong and what is said of it differ.
 #[derive(Drop)]
 pub enum Problem {
     Words,

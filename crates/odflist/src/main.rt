@@ -1,7 +1,7 @@
 //! odflist: prints the groups of the file on standard input, a disk image of which the first 64,512 bytes count.
 #![tactic(auto)]
 
-ghost use Rattle.std.specs.Prelude.{◌≤◌, length, IfOk};
+ghost use Rattle.std.specs.Prelude.{◌≤◌, IfOk};
 
 use carrier::fault::Refusal;
 use groups::{GroupRow, groups};
@@ -17,14 +17,23 @@ const LIMIT: usize = 64_512;
 /// As many rows as eight blocks have cells, so that a row is there for every group.
 const ROWS: usize = 1_792;
 
-/// The bytes of standard input that count.
-fn read_input(rt: &HostRuntime) -> io::Result<Vec<u8>>
-    ensures { IfOk result (λ bytes. length bytes.items ≤ 64512) }
+/// Fills the buffer from standard input; answers how many bytes there were.
+// A buffer of fixed size with its length, and no `Vec`: every input gets its answer, so nothing here may run out of memory.
+fn read_input(rt: &HostRuntime, buffer: &mut [u8; LIMIT]) -> io::Result<usize>
+    ensures { IfOk result (λ n. n ≤ 64512) }
 {
-    let mut bytes = Vec::new(rt.alloc());
-    rt.stdin().take(LIMIT as u64).read_to_end(&mut bytes)?;
-    bytes.truncate(LIMIT);
-    Ok(bytes)
+    let mut length = 0;
+    for _ in 0..LIMIT {
+        if length >= LIMIT {
+            break;
+        }
+        let count = rt.stdin().read(&mut buffer[length..])?;
+        if count == 0 {
+            break;
+        }
+        length += count;
+    }
+    Ok(length)
 }
 
 /// Prints the rows, or the fault.
@@ -54,14 +63,9 @@ fn print_answer(
 }
 
 fn main(rt: HostRuntime) -> io::Result<()> {
-    let bytes = read_input(&rt)?;
-    let empty = GroupRow {
-        key: 0,
-        secondary: 0,
-        packet: 0,
-        packets: 0,
-    };
-    let mut rows = vec![in rt.alloc(); empty; ROWS]?;
-    let answer = groups(&Image::new(Disk, bytes.as_slice()), rows.as_mut_slice());
-    print_answer(&rt, answer, rows.as_slice())
+    let mut buffer = [0; LIMIT];
+    let length = read_input(&rt, &mut buffer)?;
+    let mut rows = [GroupRow::default(); ROWS];
+    let answer = groups(&Image::new(Disk, &buffer[..length]), &mut rows);
+    print_answer(&rt, answer, &rows)
 }

@@ -6,45 +6,17 @@ use station::ramp::items::RampItems;
 use std::alloc::{AllocError, Global};
 use std::fmt;
 
-/// The number in an item.
-#[derive(Clone, Copy)]
-pub(crate) enum Number {
-    Unsigned(u64),
-    Signed(i64),
-}
-
-impl From<u64> for Number {
-    fn from(number: u64) -> Number {
-        Number::Unsigned(number)
-    }
-}
-
-impl From<i64> for Number {
-    fn from(number: i64) -> Number {
-        Number::Signed(number)
-    }
-}
-
-impl fmt::Display for Number {
-    fn fmt<W: fmt::Write>(&self, f: &mut fmt::Formatter<W>) -> fmt::Result {
-        match self {
-            Number::Unsigned(number) => number.fmt(f),
-            Number::Signed(number) => number.fmt(f),
-        }
-    }
-}
-
 /// An item: its place in the record, its number, its unit and its name.
 #[derive(Clone, Copy)]
 pub(crate) struct Entry {
     item: usize,
-    number: Number,
+    number: i128,
     unit: &'static str,
     name: &'static str,
 }
 
 impl Entry {
-    fn new<N: Into<Number> + Drop>(
+    fn new<N: Into<i128> + Drop>(
         item: usize,
         number: N,
         unit: &'static str,

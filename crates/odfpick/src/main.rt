@@ -75,6 +75,7 @@ fn run(rt: &HostRuntime) -> Result<(), Problem> {
         return Err(Problem::NotRead);
     }
     let image = Image::new(make, bytes.as_slice());
+    // The word on the command line picks the type, so an arm for each is left.
     match kind {
         Kind::Orbit => show::<OrbitItems, _>(rt, &image, k),
         Kind::Ramp => show::<RampItems, _>(rt, &image, k),

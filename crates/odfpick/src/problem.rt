@@ -4,6 +4,7 @@ use std::alloc::AllocError;
 use std::fmt;
 
 /// Why no record is printed.
+// `odfcopy` has an enum of its own: what can go wrong and what is said of it differ.
 #[derive(Drop)]
 pub enum Problem {
     Words,

@@ -17,6 +17,9 @@ use Rattle.orbit.specs.OrbitLaws.{wide, items_back, words_back}
 pub back : (i : OrbitItems) → bad_orbit i ≡ 0 → orbit_of (orbit_words i) ≡ i
 back i e = items_back i (wide i e)
 
+pub same : (x y : Orbit) → items_of x ≡ items_of y → x ≡ y
+same = laws.same rules
+
 pub read_back : (x : Orbit) → unpacked (packed x) ≡ Some x
 read_back = laws.read_back rules words back
 

@@ -22,6 +22,7 @@ pub struct OrbitItems {
     /// Network of the transmitting station.
     pub network: u64,
     /// Data type.
+    // A number, as every item: it may be one that is no data type, and is then refused.
     pub kind: u64,
     /// Downlink band.
     pub downlink: u64,

@@ -8,6 +8,7 @@ use record::lawful::Items;
 use record::rules::{is_signed_pair, is_signed32, is_within, lowest_broken};
 
 /// At most so much, and zero where it has to be.
+// The flag is a rule of its own and says nothing of the number beside it, so an `Option` would say less.
 fn is_held(value: u64, most: u64, zero: bool) -> bool
     ensures { result ≡ held value most zero }
 {
@@ -60,6 +61,7 @@ fn keeps_auxiliary(kind: u64, network: u64, auxiliary: i64) -> bool
 }
 
 /// The rules, an item each.
+// `|` and no `||`: without branches the list has one path.
 fn rules(items: &OrbitItems) -> [bool; 22]
     ensures { result ≡ orbit_rules items.now }
 {

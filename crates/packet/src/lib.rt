@@ -30,6 +30,7 @@ fn byte_of(words: &[u32; 9], place: usize) -> u8
 }
 
 /// The nine words of a packet.
+// Functions, and no `From`: both types are arrays, which are the library's.
 pub fn words_of(packet: &Packet) -> [u32; 9]
     ensures words { result ≡ words_of packet.now }
     ensures back { bytes_of result ≡ packet.now }

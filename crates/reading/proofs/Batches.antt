@@ -1,8 +1,8 @@
 -- The rows of a summary, compared one batch after another.
-use Rattle.std.proofs.Common.{◌≡◌, ℕ, zero, suc, ◌+◌, ◌<◌, ◌≤◌, true, false, List, [], ◌∷◌, ◌++◌, map, length, get_or, take, drop, is_some, Some, None, Ok, Err, Option, sym, refl, ap, ◌∙◌, inl, inr, add-zero, arith}
+use Rattle.std.proofs.Common.{◌≡◌, ℕ, zero, suc, ◌+◌, ◌<◌, ◌≤◌, true, false, List, [], ◌∷◌, ◌++◌, map, length, get_or, take, drop, is_some, Some, None, Ok, Err, Option, Result, sym, refl, ap, ◌∙◌, inl, inr, add-zero, arith}
 use Rattle.std.specs.List.{slice_get}
 use Rattle.std.specs.Str.{bytes_eq}
-use Rattle.std.proofs.lemmas.List.{take-append-drop, map-append, drop-map, drop_more, length-map, drop-drop, length-take}
+use Rattle.std.proofs.lemmas.List.{take-append-drop, map-append, length-drop, drop-map, drop_more, length-map, drop-drop, length-take}
 use Rattle.std.proofs.lemmas.Bool.{cases_Bool}
 use Rattle.carrier.specs.Cells.{Cell, holds, damaged}
 use Rattle.summary.specs.declared.summary_key.SummaryKey.{SummaryKey}
@@ -78,7 +78,7 @@ module _ (rows : List (Row SummaryKey)) (cs : List Cell) (k : ℕ) where
   pub batch-err : (e : FileFault) → Err e ≡ rows_at k batch (drop k cs) → rows_at k (map row_packet rows) (drop k cs) ≡ Err e
   batch-err e q = cut ∙ ap (λ v. and_then v (λ _. rows_at (k + length batch) (map row_packet (drop 64 rows)) (drop (length batch) (drop k cs)))) (sym q)
 
-  pub batch-ok : (u : Unit {0}) (n : ℕ) → Ok u ≡ rows_at k batch (drop k cs) → n ≡ length (take 64 rows) → rows_at k (map row_packet rows) (drop k cs) ≡ rows_at (k + n) (map row_packet (drop 64 rows)) (drop (k + n) cs)
+  batch-ok : (u : Unit {0}) (n : ℕ) → Ok u ≡ rows_at k batch (drop k cs) → n ≡ length (take 64 rows) → rows_at k (map row_packet rows) (drop k cs) ≡ rows_at (k + n) (map row_packet (drop 64 rows)) (drop (k + n) cs)
   batch-ok u n q e =
       let l : length batch ≡ n = length-map (take 64 rows) row_packet ∙ sym e in
       cut
@@ -87,7 +87,7 @@ module _ (rows : List (Row SummaryKey)) (cs : List Cell) (k : ℕ) where
       ∙ ap (rows_at (k + n) (map row_packet (drop 64 rows))) (drop-drop n k cs)
 
   -- the last batch
-  pub batch-all : (u : Unit {0}) → Ok u ≡ rows_at k batch (drop k cs) → take 64 rows ≡ rows → rows_at k (map row_packet rows) (drop k cs) ≡ Ok u
+  batch-all : (u : Unit {0}) → Ok u ≡ rows_at k batch (drop k cs) → take 64 rows ≡ rows → rows_at k (map row_packet rows) (drop k cs) ≡ Ok u
   batch-all u q e = ap (λ v. rows_at k (map row_packet v) (drop k cs)) (sym e) ∙ sym q
 
 -- the batch behind a batch
@@ -99,7 +99,7 @@ no_key : (o : Option SummaryKey) → is_some o ≡ false → o ≡ None
 no_key None h = refl
 no_key (Some k) h = absurd cc
 
-pub record More (all : List (Row SummaryKey)) (a b : Option SummaryKey) (n : ℕ) : Type 0 where
+record More (all : List (Row SummaryKey)) (a b : Option SummaryKey) (n : ℕ) : Type 0 where
   pub left : over summary_lt b all ≡ drop 64 (over summary_lt a all)
   pub full : n ≡ 64
   pub some : 64 ≤ length (over summary_lt a all)
@@ -108,7 +108,7 @@ module _ (xs : List Orbit) (a b : Option SummaryKey) (t : List (Row SummaryKey))
   abbrev above : List (Row SummaryKey)
   above = over summary_lt a (rows_of summary_lt summary_of xs)
 
-  pub more : is_some b ≡ true → More (rows_of summary_lt summary_of xs) a b n
+  more : is_some b ≡ true → More (rows_of summary_lt summary_of xs) a b n
   more s =
       let k = some_key b s in
       let q : highest_of (take 64 above) ≡ Some k.0 = ap highest_of (sym e) ∙ sym h ∙ k.1 in
@@ -117,5 +117,33 @@ module _ (xs : List Orbit) (a b : Option SummaryKey) (t : List (Row SummaryKey))
       let p : length t ≡ length (take 64 above) = ap length e in
       record { left = ap (λ v. over summary_lt v (rows_of summary_lt summary_of xs)) k.1 ∙ batch_next summary_lt summary_of summary_ordered xs a k.0 q; full = omega arith; some = omega arith }
 
-  pub last : is_some b ≡ false → take 64 above ≡ above
+  last : is_some b ≡ false → take 64 above ≡ above
   last s = batch_last above (ap highest_of (sym e) ∙ sym h ∙ no_key b s)
+
+-- the rows of the summary of the o orbit records that come behind a key
+abbrev pub rows_behind : ℕ → List Cell → Option SummaryKey → List (Row SummaryKey)
+rows_behind o cs a = over summary_lt a (all_rows o cs)
+
+-- a batch that stands from cell k on and holds the next n of the rows behind a key; b is the batch's highest key
+module _ (o : ℕ) (cs : List Cell) (a b : Option SummaryKey) (k n : ℕ) (t : List (Row SummaryKey)) (e : t ≡ take 64 (rows_behind o cs a)) (c : n ≡ length t) (h : b ≡ highest_of t) (q : Ok tt ≡ rows_at k (map row_packet t) (drop k cs)) where
+  abbrev stand : ℕ → List (Row SummaryKey) → Result (Unit {0}) FileFault
+  stand j xs = rows_at j (map row_packet xs) (drop j cs)
+
+  stands : Ok tt ≡ stand k (take 64 (rows_behind o cs a))
+  stands = q ∙ ap (stand k) e
+
+  -- no row comes behind it
+  pub ends : is_some b ≡ false → (n ≡ length (rows_behind o cs a)) × (stand k (rows_behind o cs a) ≡ Ok tt)
+  ends s =
+      let l = last (orbits_in (take o (drop 5 cs))) a b t n e c h s in
+      (c ∙ ap length (e ∙ l), batch-all (rows_behind o cs a) cs k tt stands l)
+
+  -- the rows behind it have to follow
+  pub goes-on : is_some b ≡ true → (n + length (rows_behind o cs b) ≡ length (rows_behind o cs a)) × (0 < n) × (stand (k + n) (rows_behind o cs b) ≡ stand k (rows_behind o cs a))
+  goes-on s =
+      let m = more (orbits_in (take o (drop 5 cs))) a b t n e c h s in
+      let l : length (rows_behind o cs b) ≡ length (drop 64 (rows_behind o cs a)) = ap length m.left in
+      let d = length-drop 64 (rows_behind o cs a) in
+      let full = m.full in
+      let some = m.some in
+      (omega arith, omega arith, ap (stand (k + n)) m.left ∙ sym (batch-ok (rows_behind o cs a) cs k tt n stands (c ∙ ap length e)))

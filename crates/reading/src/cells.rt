@@ -1,11 +1,14 @@
 //! The cells of a file, one after the other.
+// A carrier and a packet's number go through the calls side by side. A struct of both would be made anew at each call, since the
+// number is what changes and what faults name; the definitions take the cells from there on and the number, too.
 ghost use Rattle.std.specs.Prelude.{◌≡◌, ◌<◌, ◌&&◌, length, drop, OnOk, ◌==◌};
 ghost use Rattle.std.specs.Str.{bytes_eq};
 ghost use Rattle.packet.specs.Packets.{word, header_like};
 ghost use Rattle.reading.specs.Outcomes.{and_then};
+ghost use Rattle.reading.specs.Places.{Carried, Within};
 ghost use Rattle.reading.specs.Reading.{packet_at, opened, filler_at};
 
-use crate::walk::Bounds;
+use crate::due::Due;
 use carrier::Carrier;
 use label::header::check_header;
 use odf::fault::FileFault;
@@ -16,7 +19,8 @@ use packet::{FILLER, Packet, is_header_like, words_of};
 #[tactic(auto, using(crate::proofs::Walks::past_end, crate::proofs::Walks::held, crate::proofs::Walks::faulty))]
 pub(crate) fn next_packet<C: Carrier>(carrier: &C, k: usize) -> Result<Packet, FileFault>
     ensures answer { result ≡ packet_at k (drop k (C.Carrier.cells carrier.now)) }
-    ensures within { OnOk result ((k < length (C.Carrier.cells carrier.now)) × (k < 1000000)) }
+    ensures carried { Carried (C.Carrier.cells carrier.now) }
+    ensures within { OnOk result (Within (C.Carrier.cells carrier.now) k) }
 {
     if k >= carrier.count() {
         return Err(FileFault::Ended { packet: k });
@@ -32,39 +36,29 @@ fn is_header(packet: &Packet, key: u32) -> bool
     is_header_like(packet) && words_of(packet)[0] == key
 }
 
-/// The secondary key of this packet, which is packet `k` and has to be the header with this key.
-pub(crate) fn open_header(
-    packet: &Packet,
-    k: usize,
-    key: u32,
-    length: u32,
-    bounds: Bounds,
-) -> Result<u32, FileFault>
-    ensures { result ≡ opened key length bounds k packet.now }
+/// The secondary key of this packet, which is packet `k` and has to be the header that is due.
+pub(crate) fn open_header(packet: &Packet, k: usize, due: Due) -> Result<u32, FileFault>
+    ensures { result ≡ opened due.key due.length due.bounds k packet.now }
 {
-    if !is_header(packet, key) {
+    if !is_header(packet, due.key) {
         return Err(FileFault::Misplaced { packet: k });
     }
-    let secondary = check_header(packet, k, bounds.least, bounds.most, length)?;
+    let bounds = due.bounds;
+    let secondary = check_header(packet, k, bounds.least, bounds.most, due.length)?;
     if u64::from(secondary) < bounds.lowest {
         return Err(FileFault::OutOfOrder { packet: k });
     }
     Ok(secondary)
 }
 
-/// The secondary key of packet `k`, which has to be the header with this key.
-pub(crate) fn header_at<C: Carrier>(
-    carrier: &C,
-    k: usize,
-    key: u32,
-    record_length: u32,
-    bounds: Bounds,
-) -> Result<u32, FileFault>
-    ensures answer { result ≡ and_then (packet_at k (drop k (C.Carrier.cells carrier.now))) (opened key record_length bounds k) }
-    ensures within { OnOk result ((k < length (C.Carrier.cells carrier.now)) × (k < 1000000)) }
+/// The secondary key of packet `k`, which has to be the header that is due.
+pub(crate) fn header_at<C: Carrier>(carrier: &C, k: usize, due: Due) -> Result<u32, FileFault>
+    ensures answer { result ≡ and_then (packet_at k (drop k (C.Carrier.cells carrier.now))) (opened due.key due.length due.bounds k) }
+    ensures carried { Carried (C.Carrier.cells carrier.now) }
+    ensures within { OnOk result (Within (C.Carrier.cells carrier.now) k) }
 {
     let packet = next_packet(carrier, k)?;
-    open_header(&packet, k, key, record_length, bounds)
+    open_header(&packet, k, due)
 }
 
 /// Every cell from cell `first` on has to be filler.

@@ -2,6 +2,7 @@
 #![tactic(auto)]
 
 mod cells;
+mod due;
 mod group;
 mod keys;
 mod opening;

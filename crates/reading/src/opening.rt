@@ -3,11 +3,11 @@ ghost use Rattle.std.specs.Prelude.{◌≡◌, drop};
 ghost use Rattle.record.specs.Kinds.{plain};
 ghost use Rattle.label.specs.Identifiers.{bad_identifier};
 ghost use Rattle.label.specs.Labels.{unpacked, bad};
+ghost use Rattle.reading.specs.Places.{Carried};
 ghost use Rattle.reading.specs.Reading.{data_at, identified, data_packet, opening};
 
 use crate::cells::{header_at, next_packet};
-use crate::keys::{IDENTIFIER, LABEL};
-use crate::walk::Bounds;
+use crate::due::Due;
 use carrier::Carrier;
 use label::identifier::check_identifier;
 use label::label::{Label, LabelItems};
@@ -44,11 +44,12 @@ fn read_identifier<C: Carrier>(carrier: &C) -> Result<(), FileFault>
 
 /// The label of a file, whose first four packets are its header, the label, the identifier's header and the identifier.
 pub(crate) fn read_opening<C: Carrier>(carrier: &C) -> Result<Label, FileFault>
-    ensures { result ≡ opening (C.Carrier.cells carrier.now) }
+    ensures answer { result ≡ opening (C.Carrier.cells carrier.now) }
+    ensures carried { Carried (C.Carrier.cells carrier.now) }
 {
-    header_at(carrier, 0, LABEL, 1, Bounds::NONE)?;
+    header_at(carrier, 0, Due::LABEL)?;
     let label = read_label(carrier)?;
-    header_at(carrier, 2, IDENTIFIER, 1, Bounds::NONE)?;
+    header_at(carrier, 2, Due::IDENTIFIER)?;
     read_identifier(carrier)?;
     Ok(label)
 }

@@ -1,10 +1,12 @@
 //! One group after another, from the orbit records to the end packet.
 ghost use Rattle.std.specs.Prelude.{◌≡◌, ◌+◌, ◌<◌, length, drop, IfOk};
 ghost use Rattle.reading.specs.Outcomes.{seen};
+ghost use Rattle.reading.specs.Places.{NotPast};
 ghost use Rattle.reading.specs.Reading.{end_behind, summary_at, ramps_above, clock_group, summary, end_packet};
 ghost use Rattle.reading.specs.Walking.{rows_over, passed, stepped};
 
 use crate::cells::{header_at, next_packet, open_header};
+use crate::due::Due;
 use crate::group::walk_group;
 use crate::keys::{CLOCKS, END, RAMPS, SUMMARY};
 use crate::report::Report;
@@ -53,7 +55,7 @@ fn pass_clocks<C: Carrier>(carrier: &C, walk: Walk) -> Result<Walk, FileFault>
 fn pass_end<C: Carrier>(carrier: &C, walk: Walk) -> Result<Walk, FileFault>
     ensures { result ≡ passed walk (C.Carrier.cells carrier.now) end_packet }
 {
-    header_at(carrier, walk.report.end, END, 0, Bounds::NONE)?;
+    header_at(carrier, walk.report.end, Due::END)?;
     Ok(Walk {
         stage: Stage::Closed,
         report: Report {
@@ -71,15 +73,15 @@ fn check_end_behind<C: Carrier>(carrier: &C, k: usize) -> Result<u32, FileFault>
     if !is_header_like(&packet) {
         return Err(FileFault::WrongRow { packet: k });
     }
-    open_header(&packet, k, END, 0, Bounds::NONE)
+    open_header(&packet, k, Due::END)
 }
 
 /// How many rows the summary has whose header is packet `at`, with the end packet behind them.
 fn walk_summary<C: Carrier>(carrier: &C, orbits: usize, at: usize) -> Result<usize, FileFault>
     ensures answer { result ≡ seen (λ _. length (rows_over orbits (C.Carrier.cells carrier.now))) (summary_at (rows_over orbits (C.Carrier.cells carrier.now)) at (drop at (C.Carrier.cells carrier.now))) }
-    ensures within { IfOk result (λ n. at + 1 + n < 1000001) }
+    ensures within { IfOk result (λ n. NotPast (C.Carrier.cells carrier.now) (at + 1 + n)) }
 {
-    header_at(carrier, at, SUMMARY, 1, Bounds::NONE)?;
+    header_at(carrier, at, Due::SUMMARY)?;
     let rows = check_rows(carrier, orbits, at + 1)?;
     check_end_behind(carrier, at + 1 + rows)?;
     Ok(rows)

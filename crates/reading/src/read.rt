@@ -15,12 +15,13 @@ use odf::fault::FileFault;
 use orbit::items::OrbitItems;
 
 /// What stands behind the orbit records, up to the last cell. Each group takes a cell, so there are no more groups than cells.
-fn read_rest<C: Carrier>(carrier: &C, cells: usize, orbits: usize) -> Result<Report, FileFault>
-    requires { (orbits < 1000000) × (cells ≡ length (C.Carrier.cells carrier.now)) }
+fn read_rest<C: Carrier>(carrier: &C, orbits: usize) -> Result<Report, FileFault>
+    requires { orbits < 1000000 }
     ensures { result ≡ walked (length (C.Carrier.cells carrier.now)) (start orbits) (C.Carrier.cells carrier.now) }
 {
     let mut walk = Walk::start(orbits);
-    for _turn in 0..cells {
+    // A `for` with a bound, since every loop has to end; no turn takes less than a cell.
+    for _turn in 0..carrier.count() {
         walk = step(carrier, walk)?;
         if walk.stage == Stage::Closed {
             check_filler(carrier, walk.report.end + 1)?;
@@ -39,7 +40,6 @@ pub fn read<C: Carrier>(carrier: &C) -> Result<Report, FileFault>
     ensures file { Judged (C.Carrier.cells carrier.now) result }
     ensures few { length (C.Carrier.cells carrier.now) ≤ 1000000 }
 {
-    let cells = carrier.count();
     let label = read_opening(carrier)?;
     let orbits = walk_group::<OrbitItems, C>(
         carrier,
@@ -47,7 +47,7 @@ pub fn read<C: Carrier>(carrier: &C) -> Result<Report, FileFault>
         Bounds::NONE,
         Some(spacecraft_of(&label)),
     )?;
-    read_rest(carrier, cells, orbits.records)
+    read_rest(carrier, orbits.records)
 }
 
 /// Reads two carriers, of one make or not. Where both are accepted, they hold equal packets up to and with the end packet

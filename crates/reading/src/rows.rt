@@ -3,6 +3,7 @@ ghost use Rattle.std.specs.Prelude.{◌≡◌, ◌+◌, ◌<◌, ◌≤◌, [], 
 ghost use Rattle.summary.specs.RowWords.{row_packet};
 ghost use Rattle.summary.specs.Tables.{rows_in};
 ghost use Rattle.reading.specs.Outcomes.{seen};
+ghost use Rattle.reading.specs.Places.{Within, NotPast};
 ghost use Rattle.reading.specs.Reading.{rows_at};
 ghost use Rattle.reading.specs.Walking.{rows_over};
 
@@ -17,7 +18,7 @@ use summary::table::{Row, Table};
 /// Packet `k` has to be this row.
 fn check_row<C: Carrier>(carrier: &C, row: &Row<SummaryKey>, k: usize) -> Result<(), FileFault>
     ensures answer { result ≡ rows_at k (row_packet row.now ∷ []) (drop k (C.Carrier.cells carrier.now)) }
-    ensures within { OnOk result (k < length (C.Carrier.cells carrier.now)) }
+    ensures within { OnOk result (Within (C.Carrier.cells carrier.now) k) }
 {
     let packet = next_packet(carrier, k)?;
     if packet == row_packet(row) {
@@ -33,9 +34,9 @@ fn check_batch<C: Carrier>(
     table: &Table<SummaryKey>,
     first: usize,
 ) -> Result<(), FileFault>
-    requires { (first ≤ length (C.Carrier.cells carrier.now)) × (first ≤ 1000000) }
+    requires { NotPast (C.Carrier.cells carrier.now) first }
     ensures answer { result ≡ rows_at first (map row_packet (rows_in table.now)) (drop first (C.Carrier.cells carrier.now)) }
-    ensures within { OnOk result (first + length (rows_in table.now) ≤ length (C.Carrier.cells carrier.now)) }
+    ensures within { OnOk result (NotPast (C.Carrier.cells carrier.now) (first + length (rows_in table.now))) }
 {
     for (i, row) in table.rows().iter().enumerate() {
         check_row(carrier, row, first + i)?;
@@ -50,13 +51,13 @@ pub(crate) fn check_rows<C: Carrier>(
     orbits: usize,
     first: usize,
 ) -> Result<usize, FileFault>
-    requires { first ≤ length (C.Carrier.cells carrier.now) }
+    requires { NotPast (C.Carrier.cells carrier.now) first }
     ensures answer { result ≡ seen (λ _. length (rows_over orbits (C.Carrier.cells carrier.now))) (rows_at first (rows_over orbits (C.Carrier.cells carrier.now)) (drop first (C.Carrier.cells carrier.now))) }
-    ensures within { IfOk result (λ n. (first + n ≤ length (C.Carrier.cells carrier.now)) × (first + n ≤ 1000000)) }
+    ensures within { IfOk result (λ n. NotPast (C.Carrier.cells carrier.now) (first + n)) }
 {
-    let _ = carrier.count();
     let mut table = Table::<SummaryKey>::new();
     let mut above = None;
+    // The packet behind the rows compared so far; no more than one batch of rows is held at a time.
     let mut at = first;
     loop {
         lowest_rows(carrier, 5, orbits, above, &mut table);

@@ -23,6 +23,7 @@ pub(crate) struct Walk {
     pub(crate) report: Report,
 }
 
+// A model, and no ghost field: the definitions build such values from contents, without a proof of the counts.
 impl Model for Walk {
     ghost use Rattle.reading.specs.Walking.{Progress, Counts};
 

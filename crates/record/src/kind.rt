@@ -54,10 +54,26 @@ pub trait RecordKind: Packed {
         ensures { result ≡ broken (foreign owner self.now) };
 
     /// The record's time, in billionths of a second.
-    fn time(from: &Lawful<Self>) -> u64
+    fn time_of(from: &Lawful<Self>) -> u64
         ensures { result ≡ starts from.now.items };
 
     /// The time before which no record may follow, in billionths of a second.
-    fn end_time(from: &Lawful<Self>) -> u64
+    fn end_time_of(from: &Lawful<Self>) -> u64
         ensures { result ≡ until from.now.items };
+}
+
+impl<K: RecordKind> Lawful<K> {
+    /// The record's time, in billionths of a second.
+    pub fn time(&self) -> u64
+        ensures { result ≡ K.RecordKind.starts self.now.items }
+    {
+        K::time_of(self)
+    }
+
+    /// The time before which no record may follow, in billionths of a second.
+    pub fn end_time(&self) -> u64
+        ensures { result ≡ K.RecordKind.until self.now.items }
+    {
+        K::end_time_of(self)
+    }
 }

@@ -29,6 +29,7 @@ pub struct Lawful<I: Items> {
     ghost lawful: { I.unfit items ≡ 0 },
 }
 
+// By hand: the check refuses to derive `Clone` here, with or without `Copy`, as the struct has a ghost field.
 impl<I: Items> Clone for Lawful<I> {
     ghost is_clone = { λ x y. y ≡ x };
 
@@ -43,6 +44,7 @@ impl<I: Items> Copy for Lawful<I> {}
 
 impl<I: Items> Lawful<I> {
     /// The record of these items, or the lowest that breaks its rule.
+    // The number is an item; the three calls that ask put it into a fault each.
     pub(crate) fn checked(items: I) -> Result<Lawful<I>, usize>
         ensures { MatchResult result (λ x. x.items ≡ items) (λ item. (0 < I.bad items) × (item ≡ I.bad items)) }
     {
@@ -53,6 +55,7 @@ impl<I: Items> Lawful<I> {
     }
 
     /// The record of these items; refused at the lowest that breaks its rule.
+    // No `TryFrom`: for a type parameter it would overlap with the library's own.
     pub fn new(items: I) -> Result<Lawful<I>, RecordFault>
         ensures { MatchResult result (λ x. x.items ≡ items) (λ e. (0 < I.bad items) × (e ≡ Forbidden (I.bad items))) }
     {

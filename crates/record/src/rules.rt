@@ -28,12 +28,12 @@ pub fn is_signed_pair(whole: i64, part: i64) -> bool
 pub fn is_within(least: u64, most: u64, number: u64) -> bool
     ensures { result ≡ within least most number }
 {
-    least <= number && number <= most
+    (least..=most).contains(&number)
 }
 
 /// Whether a number has 32 bits, two's complement.
 pub fn is_signed32(number: i64) -> bool
     ensures { result ≡ signed32 number }
 {
-    number >= -2_147_483_648 && number <= 2_147_483_647
+    i32::try_from(number).is_ok()
 }

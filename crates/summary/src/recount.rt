@@ -12,7 +12,6 @@ use carrier::Carrier;
 use orbit::items::OrbitItems;
 use orbit::orbit::Orbit;
 use packet::is_header_like;
-use record::kind::RecordKind;
 use record::packing::unpack;
 
 /// The orbit record in a cell, if it holds one.
@@ -46,7 +45,7 @@ fn note_record<K: Key>(table: &mut Table<K>, above: Option<K>, orbit: &Orbit)
     ensures { rows_in table.new ≡ take 64 (note_of K.Key.lt (kept K.Key.lt above (K.Key.keyed orbit.now)) (instant orbit.now) (rows_in table.old)) }
 {
     if let Some(key) = key_above(above, orbit) {
-        table.note(key, OrbitItems::time(orbit));
+        table.note(key, orbit.time());
     }
 }
 

@@ -30,6 +30,7 @@ impl Key for SummaryKey {
 
     fn of(orbit: &Orbit) -> Option<SummaryKey> {
         let items = orbit.items();
+        // Types 11 to 13, as FORMAT.md has it.
         let doppler = is_within(11, 13, items.kind);
         Some(SummaryKey {
             receiver: items.receiver as u32,

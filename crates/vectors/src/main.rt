@@ -46,6 +46,7 @@ fn run(rt: &HostRuntime) -> anyhow::Result<()> {
         let line = line?;
         let words: Vec<&str> = line.as_str().split(' ').collect(heap)?;
         let words = words.as_slice();
+        // A word of the line picks the type, so an arm for each is left.
         let answer = match words {
             [_, "orbit", ..] => answer::<OrbitItems>(heap, words)?,
             [_, "ramp", ..] => answer::<RampItems>(heap, words)?,

@@ -4,6 +4,7 @@ use std::num::ParseIntError;
 use std::str::FromStr;
 
 /// A number that stands in a word.
+// The library has no trait by which a type tells its largest number.
 pub(crate) trait Integer: FromStr<Err = ParseIntError> {
     /// What a word that is no number stands for.
     const OTHERWISE: Self;
@@ -25,6 +26,7 @@ pub(crate) fn number<N: Integer>(words: &[&str], place: usize) -> N {
     }
 }
 
+// Not `hex::decode`, which refuses what is 0 here.
 fn digit(byte: u8) -> u8 {
     match byte {
         b'0'..=b'9' => byte - b'0',

@@ -31,12 +31,12 @@ impl RecordKind for OrbitItems {
     }
 
     #[tactic(auto, using(crate::specs::OrbitKindLaws::timed))]
-    fn time(from: &Orbit) -> u64 {
+    fn time_of(from: &Orbit) -> u64 {
         let items = from.items();
         items.seconds * 1_000_000_000 + items.millis * 1_000_000
     }
 
-    fn end_time(from: &Orbit) -> u64 {
-        Self::time(from)
+    fn end_time_of(from: &Orbit) -> u64 {
+        Self::time_of(from)
     }
 }

@@ -32,6 +32,7 @@ fn signed20(bits: u64) -> i64
 }
 
 impl OrbitItems {
+    // A function for each of the four words: they differ in how many fields they have and which, and a shift a field is plainest.
     #[tactic(auto, unfolding(packet::specs::Fields::join))]
     fn word2(&self) -> u64
         requires { Fill W2 (items2 self.now) }

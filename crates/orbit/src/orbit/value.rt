@@ -25,6 +25,7 @@ fn joined(whole: i64, part: i64) -> i64
 }
 
 /// The observable.
+// A function, as `reference_of`: `Orbit` is an instance of a type of another crate, which takes no methods here.
 pub fn value_of(orbit: &Orbit) -> Value
     ensures { result ≡ value_of (items_of orbit.now) }
 {

@@ -121,12 +121,13 @@ impl RecordKind for ClockItems {
     }
 
     #[tactic(auto, using(crate::specs::ClockLaws::time_fits))]
-    fn time(from: &Clock) -> u64 {
+    // As a ramp's: one sum of two fields, of another struct.
+    fn time_of(from: &Clock) -> u64 {
         let items = from.items();
         items.seconds * 1_000_000_000 + items.fraction
     }
 
-    fn end_time(from: &Clock) -> u64 {
-        Self::time(from)
+    fn end_time_of(from: &Clock) -> u64 {
+        Self::time_of(from)
     }
 }

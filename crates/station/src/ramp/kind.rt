@@ -133,13 +133,14 @@ impl RecordKind for RampItems {
     }
 
     #[tactic(auto, using(crate::specs::RampLaws::time_fits))]
-    fn time(from: &Ramp) -> u64 {
+    // As a clock record's, and as the end below: one sum of two fields, of another struct or at other names.
+    fn time_of(from: &Ramp) -> u64 {
         let items = from.items();
         items.seconds * 1_000_000_000 + items.fraction
     }
 
     #[tactic(auto, using(crate::specs::RampLaws::end_time_fits))]
-    fn end_time(from: &Ramp) -> u64 {
+    fn end_time_of(from: &Ramp) -> u64 {
         let items = from.items();
         items.endseconds * 1_000_000_000 + items.endfraction
     }

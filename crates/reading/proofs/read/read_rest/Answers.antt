@@ -10,7 +10,7 @@ pub loop-turn-init : goal.loop-turn-init
 loop-turn-init g c =
     let cs = g.C.Carrier.cells c.args.carrier.now in
     let all : length cs - 0 ≡ length cs = omega arith in
-    (c.requires.1, λ i. walked (all i) (c.start-walk.ensures i) cs)
+    (c.count-turn-end.ensures.answer, λ i. walked (all i) (c.start-walk.ensures i) cs)
 
 pub returns-in_err-walk : goal.returns-in_err-walk
 returns-in_err-walk g c =

@@ -22,7 +22,7 @@ loop-i-preserved g c =
     let cells = g.C.Carrier.cells c.args.carrier.now in
     let rows = c.rows-row-items.result.now in
     let within = c.in_ok-check_row.ensures.within in (
-      omega arith,
+      (omega arith, omega arith),
       sym (row_ok row_packet rows cells c.args.first c.loop-i.i _ c.loop-i-test.true _ c.in_ok-check_row.ensures.answer) ∙ c.loop-i.invariant.1,
     )
 
@@ -37,5 +37,5 @@ returns g c =
       answer = sym (at_drop_all (λ v. rows_at k v (drop k cells)) (map row_packet rows) c.loop-i.i (omega arith))
           ∙ c.loop-i.invariant.1
           ∙ ap (λ v. rows_at c.args.first (map row_packet v) (drop c.args.first cells)) c.rows-row-items.ensures;
-      within = omega arith;
+      within = (omega arith, omega arith);
     }

@@ -1,6 +1,0 @@
-use Rattle.std.proofs.Common.{◌≡◌, drop}
-use Rattle.makes.specs.Shapes.{wrong_in}
-use Rattle.makes.proofs.blocks.first_wrong.Given as goal
-
-abbrev pub invariant-loop-place : goal.invariant-loop-place
-invariant-loop-place g l = wrong_in (drop l.place-index l.place-items) l.start l.memory ≡ wrong_in l.place-items l.start l.memory
