@@ -15,7 +15,7 @@ use station::clock::items::ClockItems;
 use station::ramp::Ramp;
 use station::ramp::items::RampItems;
 
-/// Items whose unsigned numbers are small in a record. It has no functions: it hands a fact to `small_items`, once for every kind.
+/// Items whose unsigned numbers are small in a record. It has no functions: `small_items` learns the fact from it, once for every kind.
 trait Plain: Items {
     // The unsigned items.
     ghost naturals: { Self → List ℕ };

@@ -88,6 +88,8 @@ impl<'a, L: Layout> Carrier for Image<'a, L> {
 }
 
 /// How many cells a memory with this layout has; each that holds a packet holds 36 bytes.
+// Not a method: tried, and `whole` is not proved there, since of a memory in a struct the check knows its length, not that its
+// bytes are below 256.
 #[tactic(auto, using(crate::proofs::Rows::length_cells, crate::proofs::Rows::cells_whole))]
 fn count_of<L: Layout>(layout: L, memory: &[u8]) -> usize
     ensures is { result ≡ count_of (L.shape layout) memory.now }

@@ -17,7 +17,7 @@ pub enum Make {
     Block4800,
 }
 
-// The one place with an arm for each make: here the value meets its numbers.
+// The one place with an arm for each make: the numbers of each are picked here.
 impl Layout for Make {
     ghost use Rattle.makes.specs.declared.make.Make.TheVariants.{Disk, Block1200, Block4800};
 

@@ -4,39 +4,27 @@ ghost use Rattle.odfcopy.specs.declared.problem.Problem.TheVariants.{NoMemory, R
 
 use carrier::fault::CarrierFault;
 use std::alloc::AllocError;
-use std::fmt;
+use thiserror::Error;
 
 /// Why nothing was copied.
 // `odfpick` has an enum of its own: what can go wrong and what is said of it differ.
-#[derive(Drop)]
+#[derive(Debug, Drop, Error)]
 pub enum Problem {
+    #[error("usage: odfcopy FROM IN TO OUT, where FROM and TO are disk, 1200 or 4800")]
     Words,
+    #[error("no make is called {0}: the makes are disk, 1200 and 4800")]
     UnknownMake(String),
+    #[error("cannot read {0}")]
     NotRead(String),
+    #[error("cannot write {0}")]
     NotWritten(String),
+    #[error("out of memory")]
     NoMemory,
+    #[error(transparent)]
     Refused(CarrierFault),
 }
 
-impl fmt::Display for Problem {
-    fn fmt<W: fmt::Write>(&self, f: &mut fmt::Formatter<W>) -> fmt::Result {
-        match self {
-            Problem::Words => write!(
-                f,
-                "usage: odfcopy FROM IN TO OUT, where FROM and TO are disk, 1200 or 4800"
-            ),
-            Problem::UnknownMake(word) => write!(
-                f,
-                "no make is called {word}: the makes are disk, 1200 and 4800"
-            ),
-            Problem::NotRead(path) => write!(f, "cannot read {path}"),
-            Problem::NotWritten(path) => write!(f, "cannot write {path}"),
-            Problem::NoMemory => write!(f, "out of memory"),
-            Problem::Refused(fault) => fault.fmt(f),
-        }
-    }
-}
-
+// By hand, since clauses name the problem that `?` makes of a fault.
 impl From<CarrierFault> for Problem {
     ghost from_gives = { λ e r. r ≡ Refused e };
 

@@ -49,6 +49,8 @@ pub(crate) trait Listed: RecordKind {
     fn entries(&self, heap: Global) -> Result<Vec<Entry>, AllocError>;
 }
 
+// Units by the numbers of the data types, as the format's table has them.
+
 /// The unit of the observable of a data type.
 fn observable_unit(kind: u64) -> &'static str {
     match kind {

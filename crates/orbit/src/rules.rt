@@ -1,4 +1,5 @@
 //! Which items of an orbit record keep their rules.
+// Data types are numbers here, as in the rules that the format states: an item may be one that is no data type.
 ghost use Rattle.std.specs.Prelude.{◌≡◌};
 ghost use Rattle.orbit.specs.OrbitRules.{held, one_way, receive_only, no_reference, whole_rule, part_rule, auxiliary_rule, orbit_rules, bad_orbit};
 

@@ -1,7 +1,7 @@
 //! The cells of a file, one after the other.
 // A carrier and a packet's number go through the calls side by side. A struct of both would be made anew at each call, since the
 // number is what changes and what faults name; the definitions take the cells from there on and the number, too.
-ghost use Rattle.std.specs.Prelude.{◌≡◌, ◌<◌, ◌&&◌, length, drop, OnOk, ◌==◌};
+ghost use Rattle.std.specs.Prelude.{◌≡◌, ◌&&◌, drop, OnOk, ◌==◌};
 ghost use Rattle.std.specs.Str.{bytes_eq};
 ghost use Rattle.packet.specs.Packets.{word, header_like};
 ghost use Rattle.reading.specs.Outcomes.{and_then};

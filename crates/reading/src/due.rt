@@ -10,6 +10,7 @@ pub(crate) struct Due {
     pub(crate) bounds: Bounds,
 }
 
+// Written out, since a constant's value may call no function.
 impl Due {
     /// The label's header.
     pub(crate) const LABEL: Due = Due {

@@ -1,5 +1,5 @@
 //! Walking through a group of records of any kind.
-ghost use Rattle.std.specs.Prelude.{◌≡◌, ◌+◌, ◌<◌, ◌≤◌, length, drop, IfOk};
+ghost use Rattle.std.specs.Prelude.{◌≡◌, ◌+◌, length, drop, IfOk};
 ghost use Rattle.record.specs.Kinds.{kind_of};
 ghost use Rattle.reading.specs.Outcomes.{seen};
 ghost use Rattle.reading.specs.Places.{Within, NotPast};

@@ -1,5 +1,5 @@
 //! One group after another, from the orbit records to the end packet.
-ghost use Rattle.std.specs.Prelude.{◌≡◌, ◌+◌, ◌<◌, length, drop, IfOk};
+ghost use Rattle.std.specs.Prelude.{◌≡◌, ◌+◌, length, drop, IfOk};
 ghost use Rattle.reading.specs.Outcomes.{seen};
 ghost use Rattle.reading.specs.Places.{NotPast};
 ghost use Rattle.reading.specs.Reading.{end_behind, summary_at, ramps_above, clock_group, summary, end_packet};

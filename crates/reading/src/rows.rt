@@ -1,5 +1,5 @@
 //! Comparing the rows of a summary with the recount.
-ghost use Rattle.std.specs.Prelude.{◌≡◌, ◌+◌, ◌<◌, ◌≤◌, [], ◌∷◌, map, length, drop, IfOk, OnOk};
+ghost use Rattle.std.specs.Prelude.{◌≡◌, ◌+◌, [], ◌∷◌, map, length, drop, IfOk, OnOk};
 ghost use Rattle.summary.specs.RowWords.{row_packet};
 ghost use Rattle.summary.specs.Tables.{rows_in};
 ghost use Rattle.reading.specs.Outcomes.{seen};

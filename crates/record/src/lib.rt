@@ -2,6 +2,7 @@
 #![tactic(auto)]
 
 pub mod fault;
+pub mod halves;
 pub mod kind;
 pub mod lawful;
 pub mod packing;

@@ -22,7 +22,8 @@ pub fn pack<K: Packed>(from: &Lawful<K>) -> Packet
 }
 
 /// The record of which this is the packet; a packet that is no record's is refused at its lowest bad item.
-// The number is only what a refusal names; a struct of packet and number would be made for this one call.
+// The number is only what a refusal names, here and in the three calls like it; a struct of packet and number would be made at
+// each call, to be taken apart in it.
 pub fn unpack<K: Packed>(packet: &Packet, number: usize) -> Result<Lawful<K>, RecordFault>
     ensures found { MatchResult result (λ x. bytes_of (packed_by K.Items K.Packed.own x) ≡ packet.now) (λ e. ((x : Lawful K K.Items) → bytes_of (packed_by K.Items K.Packed.own x) ≢ packet.now) × (e ≡ BadItem number (bad_by K.Items K.Packed.own (words_of packet.now)))) }
     ensures read { result ≡ plain (unpacked_by K.Items K.Packed.own) (bad_by K.Items K.Packed.own) number packet.now }

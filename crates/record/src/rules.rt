@@ -1,17 +1,19 @@
 //! Rules that several kinds share.
-ghost use Rattle.std.specs.Prelude.{◌≡◌};
+ghost use Rattle.std.specs.Prelude.{◌≡◌, not, position};
 ghost use Rattle.record.specs.Rules.{broken, lowest, paired, within, signed32};
+
+/// The place of the first rule that is broken, counted from 0, if one is.
+fn first_broken(rules: &[bool]) -> Option<usize>
+    ensures { result ≡ position not rules.now }
+{
+    rules.iter().position(|kept| !*kept)
+}
 
 /// The number of the first rule that is broken, counted from 1, if one is.
 pub fn lowest_broken(rules: &[bool]) -> Option<usize>
     ensures { result ≡ broken (lowest 1 rules.now) }
 {
-    for (i, kept) in rules.iter().enumerate() {
-        if !*kept {
-            return Some(i + 1);
-        }
-    }
-    None
+    first_broken(rules).map(|place| place + 1)
 }
 
 /// Whether a whole and its billionths are a signed pair: never of opposite signs.

@@ -139,13 +139,10 @@ impl Spelled for ClockItems {
 
 /// Eight character codes, the first of them at a place, as one number.
 fn text_at(words: &[&str], place: usize) -> u64 {
-    let mut text = 0u64;
-    for word in words.iter().skip(place).take(8) {
-        text = text
-            .wrapping_mul(256)
-            .wrapping_add(word.parse::<u64>().unwrap_or(0));
-    }
-    text
+    words.iter().skip(place).take(8).fold(0u64, |text, word| {
+        text.wrapping_mul(256)
+            .wrapping_add(word.parse::<u64>().unwrap_or(0))
+    })
 }
 
 /// The codes of eight characters.

@@ -4,7 +4,7 @@ use std::num::ParseIntError;
 use std::str::FromStr;
 
 /// A number that stands in a word.
-// The library has no trait by which a type tells its largest number.
+// std has no trait by which a type tells its largest number; it stands for a word that is none, which no item allows.
 pub(crate) trait Integer: FromStr<Err = ParseIntError> {
     /// What a word that is no number stands for.
     const OTHERWISE: Self;

@@ -1,17 +1,10 @@
 //! How a label lies in nine words.
-ghost use Rattle.std.specs.Prelude.{◌≡◌, ◌+◌, ◌*◌, ◌^◌};
 ghost use Rattle.label.specs.LabelRules.{label_words, label_of};
 ghost use Rattle.label.specs.LabelLaws;
 
 use crate::label::{Label, LabelItems};
+use record::halves::{halves, joined};
 use record::kind::Packed;
-
-/// The number of 64 bits that two words make.
-fn joined(high: u32, low: u32) -> u64
-    ensures { result ≡ high * 2 ^ 32 + low }
-{
-    (u64::from(high) << 32) + u64::from(low)
-}
 
 impl Packed for LabelItems {
     ghost packed = { label_words };
@@ -29,11 +22,13 @@ impl Packed for LabelItems {
             refdate,
             reftime,
         } = from.items();
+        let [system1, system2] = halves(system);
+        let [program1, program2] = halves(program);
         [
-            (system >> 32) as u32,
-            (system % 0x1_0000_0000) as u32,
-            (program >> 32) as u32,
-            (program % 0x1_0000_0000) as u32,
+            system1,
+            system2,
+            program1,
+            program2,
             spacecraft as u32,
             date as u32,
             time as u32,

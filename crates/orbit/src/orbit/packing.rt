@@ -8,6 +8,7 @@ ghost use Rattle.orbit.specs.OrbitKindLaws;
 
 use crate::items::OrbitItems;
 use crate::orbit::Orbit;
+use record::halves::{halves, joined};
 use record::kind::Packed;
 use record::signed::{number_of, word_of};
 
@@ -97,29 +98,29 @@ impl Packed for OrbitItems {
 
     fn to_words(from: &Orbit) -> [u32; 9] {
         let items = from.items();
-        let middle = items.word67();
-        let last = items.word89();
+        let [high, low] = halves(items.word67());
+        let [top, bottom] = halves(items.word89());
         [
             items.seconds as u32,
             items.word2() as u32,
             word_of(items.whole),
             word_of(items.part),
             items.word5() as u32,
-            (middle >> 32) as u32,
-            (middle % 0x1_0000_0000) as u32,
-            (last >> 32) as u32,
-            (last % 0x1_0000_0000) as u32,
+            high,
+            low,
+            top,
+            bottom,
         ]
     }
 
     fn of_words(words: &[u32; 9]) -> OrbitItems {
         let [seconds, date, whole, part, link, high, low, top, bottom] = *words;
-        let date = date as u64;
-        let link = link as u64;
-        let middle = ((high as u64) << 32) + low as u64;
-        let last = ((top as u64) << 32) + bottom as u64;
+        let date = u64::from(date);
+        let link = u64::from(link);
+        let middle = joined(high, low);
+        let last = joined(top, bottom);
         OrbitItems {
-            seconds: seconds as u64,
+            seconds: u64::from(seconds),
             millis: (date >> 22) % 0x400,
             delay: date % 0x40_0000,
             whole: number_of(whole),

@@ -30,6 +30,7 @@ pub fn value_of(orbit: &Orbit) -> Value
     ensures { result ≡ value_of (items_of orbit.now) }
 {
     let items = orbit.items();
+    // The one data type whose observable is split otherwise, by the format's number.
     if items.kind == 41 {
         Value::Nanoseconds {
             whole: joined(items.channel as i64, items.whole),

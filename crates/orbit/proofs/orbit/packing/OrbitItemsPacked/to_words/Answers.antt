@@ -5,11 +5,11 @@ use Rattle.orbit.specs.OrbitLaws.{wide}
 use Rattle.orbit.specs.OrbitKindLaws.{timed}
 use Rattle.orbit.proofs.orbit.packing.OrbitItemsPacked.to_words.Goals as goal
 
-pub word67-middle-requires : goal.word67-middle-requires
-word67-middle-requires c = (wide c.items-items.result c.items-items.ensures.lawful).six
+pub word67-requires : goal.word67-requires
+word67-requires c = (wide c.items-items.result c.items-items.ensures.lawful).six
 
-pub word89-last-requires : goal.word89-last-requires
-word89-last-requires c = let w = wide c.items-items.result c.items-items.ensures.lawful in record { fill = w.eight; small = w.delayed }
+pub word89-requires : goal.word89-requires
+word89-requires c = let w = wide c.items-items.result c.items-items.ensures.lawful in record { fill = w.eight; small = w.delayed }
 
 pub overflow_cast-result : goal.overflow_cast-result
 overflow_cast-result c = let t = timed c.items-items.result c.items-items.ensures.lawful in omega arith
@@ -29,4 +29,4 @@ returns c =
     let w = wide x c.items-items.ensures.lawful in
     let a = (simp to_z-of_z at c.word_of.ensures.word) w.wholly in
     let b = (simp to_z-of_z at c.word_of-2.ensures.word) w.partly in
-    rw (sym c.items-items.ensures.same) (simp (c.word2.ensures.is, a, b, c.word5.ensures.is, c.word67-middle.ensures, c.word89-last.ensures))
+    rw (sym c.items-items.ensures.same) (simp (c.word2.ensures.is, a, b, c.word5.ensures.is, c.halves.ensures, c.halves-2.ensures, c.word67.ensures, c.word89.ensures))
