@@ -18,7 +18,7 @@ all_filler g t u r = let e : length (cells_of g t) - 0 ≡ length (cells_of g t)
 pub cleared_whole : (g : Shape) (t u : List ℕ) → Refilled g [] t u → first_damage 0 (cells_of g u) ≡ Ok tt
 cleared_whole g t u r = ap (first_damage 0) (all_filler g t u r) ∙ whole_replicate 0 (length (cells_of g t)) filler
 
-cleared_long : (g : Shape) (t u : List ℕ) → Refilled g [] t u → length (cells_of g u) ≡ length (cells_of g t)
+pub cleared_long : (g : Shape) (t u : List ℕ) → Refilled g [] t u → length (cells_of g u) ≡ length (cells_of g t)
 cleared_long g t u r = ap length (all_filler g t u r) ∙ length-replicate (length (cells_of g t)) (holds filler)
 
 -- the memory t cleared is u; v has the cells us in its first cells, and is otherwise u; w is v

@@ -12,6 +12,7 @@ use crate::problem::Problem;
 use carrier::Carrier;
 use convert::{convert, converted_length};
 use makes::image::Image;
+use makes::layout::{Block1200, Block4800, Disk};
 use makes::make::{Make, UnknownMake};
 use std::alloc::Global;
 use std::process::ExitCode;
@@ -34,11 +35,16 @@ fn convert_carrier<S: Carrier>(heap: Global, source: &S, make: Make) -> Result<C
 }
 
 /// The same of the bytes of a file.
-// A function of its own, since its clause is what the program promises of files.
+// A function of its own, since its clause is what the program promises of files. An arm for each make, as in `convert` and
+// for the same reason.
 fn convert_file(heap: Global, bytes: &[u8], from: Make, to: Make) -> Result<Converted, Problem>
     ensures { MatchResult result (λ d. Gives (shape_of to) (cells_of (shape_of from) bytes.now) d.memory.items d.packets) (λ p. Fails (cells_of (shape_of from) bytes.now) p) }
 {
-    convert_carrier(heap, &Image::new(from, bytes), to)
+    match from {
+        Make::Disk => convert_carrier(heap, &Image::new(Disk, bytes), to),
+        Make::Block1200 => convert_carrier(heap, &Image::new(Block1200, bytes), to),
+        Make::Block4800 => convert_carrier(heap, &Image::new(Block4800, bytes), to),
+    }
 }
 
 /// The make that a word of the command line names.

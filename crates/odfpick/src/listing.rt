@@ -3,7 +3,6 @@ use orbit::items::OrbitItems;
 use record::kind::RecordKind;
 use station::clock::items::ClockItems;
 use station::ramp::items::RampItems;
-use std::alloc::{AllocError, Global};
 use std::fmt;
 
 /// An item: its place in the record, its number, its unit and its name.
@@ -45,8 +44,16 @@ impl fmt::Display for Entry {
 
 /// Items that are listed one by one.
 pub(crate) trait Listed: RecordKind {
-    /// The items in their order.
-    fn entries(&self, heap: Global) -> Result<Vec<Entry>, AllocError>;
+    /// Prints the items in their order, a line each.
+    // No `Vec` of them: a record that was read is printed even where no memory is left.
+    fn print(&self, rt: &HostRuntime);
+}
+
+/// Prints the entries of a record, a line each.
+fn print_all(rt: &HostRuntime, entries: &[Entry]) {
+    for entry in entries {
+        let _ = println!(rt; "{entry}");
+    }
 }
 
 // Units by the numbers of the data types, as the format's table has them.
@@ -84,9 +91,9 @@ fn compression_unit(kind: u64) -> &'static str {
 }
 
 impl Listed for OrbitItems {
-    fn entries(&self, heap: Global) -> Result<Vec<Entry>, AllocError> {
+    fn print(&self, rt: &HostRuntime) {
         let unit = observable_unit(self.kind);
-        Ok(vec![in heap;
+        let entries = [
             Entry::new(1, self.seconds, "s", "record time tag, whole seconds"),
             Entry::new(2, self.millis, "ms", "record time tag, milliseconds"),
             Entry::new(3, self.delay, "ns", "receiving station downlink delay"),
@@ -129,13 +136,14 @@ impl Listed for OrbitItems {
                 "compression time, modulus or highest component",
             ),
             Entry::new(22, self.updelay, "ns", "second station or uplink delay"),
-        ]?)
+        ];
+        print_all(rt, &entries);
     }
 }
 
 impl Listed for RampItems {
-    fn entries(&self, heap: Global) -> Result<Vec<Entry>, AllocError> {
-        Ok(vec![in heap;
+    fn print(&self, rt: &HostRuntime) {
+        let entries = [
             Entry::new(1, self.seconds, "s", "ramp start time, whole seconds"),
             Entry::new(2, self.fraction, "1e-9 s", "ramp start time, fraction"),
             Entry::new(3, self.rate, "Hz/s", "ramp rate, whole part"),
@@ -151,13 +159,14 @@ impl Listed for RampItems {
             ),
             Entry::new(9, self.endseconds, "s", "ramp end time, whole seconds"),
             Entry::new(10, self.endfraction, "1e-9 s", "ramp end time, fraction"),
-        ]?)
+        ];
+        print_all(rt, &entries);
     }
 }
 
 impl Listed for ClockItems {
-    fn entries(&self, heap: Global) -> Result<Vec<Entry>, AllocError> {
-        Ok(vec![in heap;
+    fn print(&self, rt: &HostRuntime) {
+        let entries = [
             Entry::new(1, self.seconds, "s", "start time, whole seconds"),
             Entry::new(2, self.fraction, "1e-9 s", "start time, fraction"),
             Entry::new(3, self.offset, "s", "clock offset, whole part"),
@@ -177,6 +186,7 @@ impl Listed for ClockItems {
                 "1e-9 s",
                 "reserved for the end time, fraction",
             ),
-        ]?)
+        ];
+        print_all(rt, &entries);
     }
 }

@@ -45,10 +45,7 @@ impl FromStr for Kind {
 
 /// Picks the record of kind `K` in cell `k` and prints its items, a line each.
 fn show<K: Listed, C: Carrier>(rt: &HostRuntime, carrier: &C, k: usize) -> Result<(), Problem> {
-    let items = pick::<K, C>(carrier, k)?.items();
-    for entry in items.entries(rt.alloc())? {
-        let _ = println!(rt; "{entry}");
-    }
+    pick::<K, C>(carrier, k)?.items().print(rt);
     Ok(())
 }
 

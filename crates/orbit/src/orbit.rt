@@ -6,5 +6,5 @@ use record::lawful::Lawful;
 pub type Orbit = Lawful<OrbitItems>;
 
 mod kind;
-mod packing;
+pub mod packing;
 pub mod value;

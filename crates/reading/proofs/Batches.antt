@@ -34,7 +34,7 @@ rows_split k (x ∷ xs) ys (holds p ∷ ds) =
       | inr t ↦ rw t refl
     ]
 
-row_at : {A B : Type 0} (f : A → B) (xs : List A) (i : ℕ) (d : A) → i < length xs → drop i (map f xs) ≡ f (get_or xs i d) ∷ drop (i + 1) (map f xs)
+pub row_at : {A B : Type 0} (f : A → B) (xs : List A) (i : ℕ) (d : A) → i < length xs → drop i (map f xs) ≡ f (get_or xs i d) ∷ drop (i + 1) (map f xs)
 row_at f xs i d h = drop-map f i xs ∙ ap (map f) (drop_more xs i d h) ∙ ap (λ z. f (get_or xs i d) ∷ z) (sym (drop-map f (i + 1) xs))
 
 nth_below : (rows : List (Row SummaryKey)) (i : ℕ) (k : SummaryKey) → key_of (slice_get rows i) ≡ Some k → i < length rows
@@ -78,7 +78,7 @@ module _ (rows : List (Row SummaryKey)) (cs : List Cell) (k : ℕ) where
   pub batch-err : (e : FileFault) → Err e ≡ rows_at k batch (drop k cs) → rows_at k (map row_packet rows) (drop k cs) ≡ Err e
   batch-err e q = cut ∙ ap (λ v. and_then v (λ _. rows_at (k + length batch) (map row_packet (drop 64 rows)) (drop (length batch) (drop k cs)))) (sym q)
 
-  batch-ok : (u : Unit {0}) (n : ℕ) → Ok u ≡ rows_at k batch (drop k cs) → n ≡ length (take 64 rows) → rows_at k (map row_packet rows) (drop k cs) ≡ rows_at (k + n) (map row_packet (drop 64 rows)) (drop (k + n) cs)
+  pub batch-ok : (u : Unit {0}) (n : ℕ) → Ok u ≡ rows_at k batch (drop k cs) → n ≡ length (take 64 rows) → rows_at k (map row_packet rows) (drop k cs) ≡ rows_at (k + n) (map row_packet (drop 64 rows)) (drop (k + n) cs)
   batch-ok u n q e =
       let l : length batch ≡ n = length-map (take 64 rows) row_packet ∙ sym e in
       cut
@@ -87,7 +87,7 @@ module _ (rows : List (Row SummaryKey)) (cs : List Cell) (k : ℕ) where
       ∙ ap (rows_at (k + n) (map row_packet (drop 64 rows))) (drop-drop n k cs)
 
   -- the last batch
-  batch-all : (u : Unit {0}) → Ok u ≡ rows_at k batch (drop k cs) → take 64 rows ≡ rows → rows_at k (map row_packet rows) (drop k cs) ≡ Ok u
+  pub batch-all : (u : Unit {0}) → Ok u ≡ rows_at k batch (drop k cs) → take 64 rows ≡ rows → rows_at k (map row_packet rows) (drop k cs) ≡ Ok u
   batch-all u q e = ap (λ v. rows_at k (map row_packet v) (drop k cs)) (sym e) ∙ sym q
 
 -- the batch behind a batch
@@ -99,7 +99,7 @@ no_key : (o : Option SummaryKey) → is_some o ≡ false → o ≡ None
 no_key None h = refl
 no_key (Some k) h = absurd cc
 
-record More (all : List (Row SummaryKey)) (a b : Option SummaryKey) (n : ℕ) : Type 0 where
+pub record More (all : List (Row SummaryKey)) (a b : Option SummaryKey) (n : ℕ) : Type 0 where
   pub left : over summary_lt b all ≡ drop 64 (over summary_lt a all)
   pub full : n ≡ 64
   pub some : 64 ≤ length (over summary_lt a all)
@@ -108,7 +108,7 @@ module _ (xs : List Orbit) (a b : Option SummaryKey) (t : List (Row SummaryKey))
   abbrev above : List (Row SummaryKey)
   above = over summary_lt a (rows_of summary_lt summary_of xs)
 
-  more : is_some b ≡ true → More (rows_of summary_lt summary_of xs) a b n
+  pub more : is_some b ≡ true → More (rows_of summary_lt summary_of xs) a b n
   more s =
       let k = some_key b s in
       let q : highest_of (take 64 above) ≡ Some k.0 = ap highest_of (sym e) ∙ sym h ∙ k.1 in
@@ -117,7 +117,7 @@ module _ (xs : List Orbit) (a b : Option SummaryKey) (t : List (Row SummaryKey))
       let p : length t ≡ length (take 64 above) = ap length e in
       record { left = ap (λ v. over summary_lt v (rows_of summary_lt summary_of xs)) k.1 ∙ batch_next summary_lt summary_of summary_ordered xs a k.0 q; full = omega arith; some = omega arith }
 
-  last : is_some b ≡ false → take 64 above ≡ above
+  pub last : is_some b ≡ false → take 64 above ≡ above
   last s = batch_last above (ap highest_of (sym e) ∙ sym h ∙ no_key b s)
 
 -- the rows of the summary of the o orbit records that come behind a key

@@ -43,7 +43,7 @@ group_some k cs g e =
     let n : length c.0 ≡ length g.1 = ap length q in
     omega arith
 
-kept-orbits : (w : Progress) (rows : List (List ℕ)) (t : Turn) → (advance w rows t).report.orbits ≡ w.report.orbits
+pub kept-orbits : (w : Progress) (rows : List (List ℕ)) (t : Turn) → (advance w rows t).report.orbits ≡ w.report.orbits
 kept-orbits w rows (ramps g) = refl
 kept-orbits w rows (clocks g) = refl
 kept-orbits w rows (end s) = refl
@@ -82,7 +82,7 @@ module _ (w : Progress) (rows : List (List ℕ)) (cs : List Cell) (f : ℕ) wher
   goes t = onward f (advance w rows t).stage rows (advance w rows t).report.end (drop (advance w rows t).report.end cs)
 
   -- a group was read that is not the end
-  walks-on : (t : Turn) → turn w.stage rows k (drop k cs) ≡ Ok t → ((advance w rows t).stage ≡ Closed → ⊥) → seen (reported (advance w rows t) rows) (goes t) ≡ seen (reported w rows) all
+  pub walks-on : (t : Turn) → turn w.stage rows k (drop k cs) ≡ Ok t → ((advance w rows t).stage ≡ Closed → ⊥) → seen (reported (advance w rows t) rows) (goes t) ≡ seen (reported w rows) all
   walks-on (ramps g) e h =
       sym (ap (seen (reported w rows)) (turned f w.stage rows k (drop k cs) (ramps g) e)
       ∙ with-ramps g (onward f (Ramps g.0) rows (suc k + length g.1) (drop (suc (length g.1)) (drop k cs)))
@@ -105,7 +105,7 @@ module _ (w : Progress) (rows : List (List ℕ)) (cs : List Cell) (f : ℕ) wher
   seen-const f' x y (Err g) e = refl
 
   -- the end packet was read: filler has to follow
-  walks-out : (t : Turn) → turn w.stage rows k (drop k cs) ≡ Ok t → (advance w rows t).stage ≡ Closed → seen (reported w rows) all ≡ seen (λ _. (advance w rows t).report) (filler_at (suc (advance w rows t).report.end) (drop (suc (advance w rows t).report.end) cs))
+  pub walks-out : (t : Turn) → turn w.stage rows k (drop k cs) ≡ Ok t → (advance w rows t).stage ≡ Closed → seen (reported w rows) all ≡ seen (λ _. (advance w rows t).report) (filler_at (suc (advance w rows t).report.end) (drop (suc (advance w rows t).report.end) cs))
   walks-out (ramps g) e h = absurd cc
   walks-out (clocks g) e h = absurd cc
   walks-out (end s) e h =
@@ -114,7 +114,7 @@ module _ (w : Progress) (rows : List (List ℕ)) (cs : List Cell) (f : ℕ) wher
       ∙ ap (λ v. seen (λ _. (advance w rows (end s)).report) (filler_at (suc (end_from s rows k)) v)) (past s)
 
   -- a group that is refused
-  walks-into : (e : FileFault) → turn w.stage rows k (drop k cs) ≡ Err e → seen (reported w rows) all ≡ Err e
+  pub walks-into : (e : FileFault) → turn w.stage rows k (drop k cs) ≡ Err e → seen (reported w rows) all ≡ Err e
   walks-into e h = ap (λ v. seen (reported w rows) (and_then v (go_on (λ st j ds. onward f st rows j ds) rows k (drop k cs)))) h
 
 -- the report of a walk at a turn: a group that is refused, the end packet, and another group

@@ -44,7 +44,9 @@ impl<I: Items> Copy for Lawful<I> {}
 
 impl<I: Items> Lawful<I> {
     /// The record of these items, or the lowest that breaks its rule.
-    // The number is an item; the three calls that ask put it into a fault each.
+    // The number is an item; the three calls that ask put it into a fault each. A hint, since each call of it would copy the items
+    // twice, which takes a fifth of the time in which a file is read.
+    #[inline(always)]
     pub(crate) fn checked(items: I) -> Result<Lawful<I>, usize>
         ensures { MatchResult result (λ x. x.items ≡ items) (λ item. (0 < I.bad items) × (item ≡ I.bad items)) }
     {

@@ -1,5 +1,5 @@
 -- The rows of a table: where a key's row stands among them, and noting the key there.
-use Rattle.std.proofs.Common.{◌≡◌, ℕ, zero, suc, ◌+◌, ◌<◌, ◌≤◌, Bool, true, List, [], ◌∷◌, length, get_or, take, set, Result, Ok, Err, IfOk, IfErr, sym, refl, ap, ◌∙◌, subst, arith}
+use Rattle.std.proofs.Common.{◌≡◌, ℕ, zero, suc, ◌+◌, ◌<◌, ◌≤◌, Bool, true, List, [], ◌∷◌, ◌++◌, length, get_or, take, drop, set, Result, Ok, Err, IfOk, IfErr, sym, refl, ap, ◌∙◌, subst, arith}
 use Rattle.std.proofs.lemmas.Cmp.{tied_back}
 use Rattle.std.proofs.lemmas.List.Sorted.{searchable_from_sorted}
 use Rattle.std.specs.Cmp.{IsTotalOrder}
@@ -75,19 +75,12 @@ note_gap lt o k t (r ∷ rs) (suc i) gap =
       higher = λ j e h l. gap.higher (suc j) e (omega arith) (omega arith);
     }))
 
--- an element that comes in within the first, and one behind them
-pub take-insert : {X : Type 0} (xs : List X) (b i : ℕ) (y : X) → i ≤ b → take (suc b) (insert xs i y) ≡ insert (take b xs) i y
-take-insert xs b zero y h = refl
-take-insert [] zero (suc i) y h = absurd (omega arith)
-take-insert [] (suc b) (suc i) y h = refl
-take-insert (x ∷ xs) zero (suc i) y h = absurd (omega arith)
-take-insert (x ∷ xs) (suc b) (suc i) y h = ap (λ z. x ∷ z) (take-insert xs b i y (omega arith))
-
-pub take-insert_past : {X : Type 0} (xs : List X) (b i : ℕ) (y : X) → b ≤ i → b ≤ length xs → take b (insert xs i y) ≡ take b xs
-take-insert_past xs zero i y h l = refl
-take-insert_past [] (suc b) i y h l = absurd (omega arith)
-take-insert_past (x ∷ xs) (suc b) zero y h l = absurd (omega arith)
-take-insert_past (x ∷ xs) (suc b) (suc i) y h l = ap (λ z. x ∷ z) (take-insert_past xs b i y (omega arith) (omega arith))
+-- an element that comes in stands between the first and the rest
+pub insert_between : {X : Type 0} (xs : List X) (i : ℕ) (y : X) → take i xs ++ y ∷ drop i xs ≡ insert xs i y
+insert_between [] zero y = refl
+insert_between [] (suc i) y = refl
+insert_between (x ∷ xs) zero y = refl
+insert_between (x ∷ xs) (suc i) y = ap (λ z. x ∷ z) (insert_between xs i y)
 
 -- the first of ascending rows ascend
 above-take : {K : Type 0} (lt : K → K → Bool) (k : K) (b : ℕ) (rs : List (Row K)) → AllAbove lt k rs → AllAbove lt k (take b rs)

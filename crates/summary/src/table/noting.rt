@@ -1,5 +1,5 @@
 //! Noting records in a table, by their keys.
-ghost use Rattle.std.specs.Prelude.{◌≡◌, ◌+◌, ◌^◌, ◌<◌, [], take, IfOk, IfErr};
+ghost use Rattle.std.specs.Prelude.{◌≡◌, ◌+◌, ◌^◌, ◌<◌, ◌≤◌, [], ◌∷◌, ◌++◌, length, take, insert, IfOk, IfErr};
 ghost use Rattle.summary.specs.Places.{IsRowOf, IsGapFor};
 ghost use Rattle.summary.specs.Rows.{fresh, more, note, total_of};
 ghost use Rattle.summary.specs.Tables.{rows_in};
@@ -30,6 +30,32 @@ fn one_more<K: Key>(row: Row<K>, time: u64) -> Row<K>
         count: row.count + 1,
         first: row.first.min(time),
         last: row.last.max(time),
+    }
+}
+
+/// Puts a row at a place; the rows from there on move up by one, and the last that there is then falls out and is the result.
+// Row by row: for the library's `insert` an archive for C needs `memmove` from outside.
+fn shift_in<K: Key>(rows: &mut [Row<K>], i: usize, row: Row<K>) -> Row<K>
+    requires { i ≤ length rows.old }
+    ensures { rows.new ++ result ∷ [] ≡ insert rows.old i row }
+{
+    let mut carried = row;
+    for j in i..rows.len() {
+        let next = rows[j];
+        rows[j] = carried;
+        carried = next;
+    }
+    carried
+}
+
+/// Puts a row at a place; of 64 rows the last falls out.
+fn insert_row<K: Key>(rows: &mut ArrayVec<Row<K>, ROOM>, i: usize, row: Row<K>)
+    requires { i ≤ length rows.old.items }
+    ensures { rows.new.items ≡ take 64 (insert rows.old.items i row) }
+{
+    let last = shift_in(rows.as_mut_slice(), i, row);
+    if rows.len() < ROOM {
+        rows.push(last);
     }
 }
 
@@ -65,12 +91,7 @@ impl<K: Key> Table<K> {
     {
         match self.place_of(&key) {
             Ok(i) => self.rows[i] = one_more(self.rows[i], time),
-            Err(i) if i < ROOM => {
-                // Of a full table the last row falls out.
-                self.rows.truncate(ROOM - 1);
-                self.rows.insert(i, fresh_row(key, time));
-            }
-            Err(_) => {}
+            Err(i) => insert_row(&mut self.rows, i, fresh_row(key, time)),
         }
     }
 }

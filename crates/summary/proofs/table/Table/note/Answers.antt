@@ -2,10 +2,10 @@ use Rattle.std.proofs.Common.{◌≡◌, ◌≤◌, length, take, set, length-se
 use Rattle.std.proofs.lemmas.List.{take_all, length-take}
 use Rattle.std.specs.List.{insert, refill}
 use Rattle.arrayvec.proofs.ArrayVecLemmas.{items-with_items}
-use Rattle.summary.specs.Rows.{fresh, more, note, Ascends}
+use Rattle.summary.specs.Rows.{more, note, Ascends}
 use Rattle.summary.specs.Tables.{rows_in}
 use Rattle.summary.proofs.Laws.{ascends_note}
-use Rattle.summary.proofs.Tables.{note_at, note_gap, take-insert, take-insert_past, ascends-take, count_total}
+use Rattle.summary.proofs.Tables.{note_at, note_gap, ascends-take, count_total}
 use Rattle.summary.proofs.table.Table.note.Goals as goal
 
 pub one_more-requires : goal.one_more-requires
@@ -47,27 +47,17 @@ returns-in-Ok g c =
     let short : length (set rows c.in-Ok.i c.one_more.result) ≤ 64 = rw length-set c.args.self.now.within in
     written g c.before ∙ sym (take_all 64 _ short) ∙ ap (take 64) (merged g c.before)
 
-pub insert-requires : goal.insert-requires
-insert-requires g c =
-    let rows = rows_in c.args.self.now in
-    let a = c.in-Err.ensures.absent.in_range in
-    let m = ap length c.truncate.ensures.items in
-    let n = length-take 63 rows in
-    (search rules, (omega arith, omega arith))
-
--- a fresh row in the gap; of a full table the last row falls out
-inserted : (g : _) (c : goal.After-insert g) → c.insert.new.self.items ≡ take 64 (note g.K.Key.lt c.args.key c.args.time (rows_in c.args.self.now))
+-- a fresh row in the gap; of 64 rows the last falls out
+inserted : (g : _) (c : goal.After-insert_row g) → c.insert_row.new.rows.items ≡ take 64 (note g.K.Key.lt c.args.key c.args.time (rows_in c.args.self.now))
 inserted g c =
     let rows = rows_in c.args.self.now in
     let i = c.in-Err.i in
-    c.insert.ensures.items
-    ∙ ap (λ z. insert z i c.fresh_row.result) c.truncate.ensures.items
-    ∙ ap (insert (take 63 rows) i) c.fresh_row.ensures
-    ∙ sym (take-insert rows 63 i (fresh c.args.key c.args.time) (omega arith))
+    c.insert_row.ensures
+    ∙ ap (λ z. take 64 (insert rows i z)) c.fresh_row.ensures
     ∙ ap (take 64) (sym (note_gap g.K.Key.lt g.met.K.Key.ordered c.args.key c.args.time rows i c.in-Err.ensures.absent))
 
-pub invariant_of-self-then-i-lt-ROOM : goal.invariant_of-self-then-i-lt-ROOM
-invariant_of-self-then-i-lt-ROOM g c =
+pub invariant_of-self-in-Err : goal.invariant_of-self-in-Err
+invariant_of-self-in-Err g c =
     let rows = rows_in c.args.self.now in
     record {
       within = rw (inserted g c, length-take) (omega arith);
@@ -76,13 +66,3 @@ invariant_of-self-then-i-lt-ROOM g c =
 
 pub returns-in-Err : goal.returns-in-Err
 returns-in-Err g c = inserted g c.before
-
-pub returns-else-i-lt-ROOM : goal.returns-else-i-lt-ROOM
-returns-else-i-lt-ROOM g c =
-    let rows = rows_in c.args.self.now in
-    let i = c.in-Err.i in
-    let gap = c.in-Err.ensures.absent in
-    let w : length rows ≤ 64 = c.args.self.now.within in
-    sym (take_all 64 rows w)
-    ∙ sym (take-insert_past rows 64 i (fresh c.args.key c.args.time) (omega arith) (omega (arith, gap.in_range)))
-    ∙ ap (take 64) (sym (note_gap g.K.Key.lt g.met.K.Key.ordered c.args.key c.args.time rows i gap))

@@ -1,28 +1,28 @@
-use Rattle.std.proofs.Common.{◌≡◌, [], ◌++◌, length, drop, ap, ◌∙◌, rules}
-use Rattle.makes.specs.Names.{shape_of}
+use Rattle.std.proofs.Common.{◌≡◌, [], ◌++◌, length, drop, ap, rules}
 use Rattle.makes.specs.Shapes.{cells_of, outside_of}
 use Rattle.convert.specs.Conversion.{Refilled}
 use Rattle.convert.proofs.Refills.{cleared_whole, refilled}
-use Rattle.convert.proofs.convert.Goals as goal
+use Rattle.convert.proofs.refill.Goals as goal
 
 pub copy_cells-requires-clause-ready : goal.copy_cells-requires-clause-ready
 copy_cells-requires-clause-ready g c =
-    let t = c.args.target.now in
+    let sh = g.L.Layout.shape c.args.image.now.layout in
+    let t = c.args.image.now.memory.now in
     let u = c.clear.new.self.memory.now in
-    let cleared : Refilled (shape_of c.args.make) [] t u = search rules in
-    let ready = cleared_whole (shape_of c.args.make) t u cleared in
-    let layout = c.clear.ensures.layout ∙ c.new-image.ensures.layout in
+    let cleared : Refilled sh [] t u = search rules in
+    let ready = cleared_whole sh t u cleared in
+    let layout = c.clear.ensures.layout in
     cc
 
 pub returns-clause-memory : goal.returns-clause-memory
 returns-clause-memory g c =
-    let sh = shape_of c.args.make in
+    let sh = g.L.Layout.shape c.args.image.now.layout in
     let us = g.S.Carrier.cells c.args.source.now in
-    let t = c.args.target.now in
+    let t = c.args.image.now.memory.now in
     let u = c.clear.new.self.memory.now in
     let v = c.copy_cells.new.target.memory.now in
     let cleared : Refilled sh [] t u = search rules in
-    let layout = c.clear.ensures.layout ∙ c.new-image.ensures.layout in
+    let layout = c.clear.ensures.layout in
     let stays = c.copy_cells.ensures.stays in
     let shape = ap (λ k. k.shape) stays in
     let outside = ap (λ k. k.outside) stays in
